@@ -1,3 +1,4 @@
 pub mod Sums
 pub mod Next
 pub mod Hindmost
+pub mod Models

@@ -5,3 +5,4 @@ pub mod Rankings
 pub mod Policies
 pub mod Refusals
 pub mod Frames
+pub mod Theorems

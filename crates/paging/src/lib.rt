@@ -2,3 +2,4 @@
 pub mod frames;
 pub mod policy;
 pub mod refusal;
+pub mod theorems;

@@ -1,0 +1,5 @@
+use Rattle.paging.proofs.Models.{pager-schedules}
+use Rattle.paging.proofs.theorems.pagers_stand.Needs as need
+
+pub returns : need.returns
+returns c = pager-schedules
