@@ -1,0 +1,12 @@
+//! The trial: a string of page references, and what the policies, rankings and pagers make of it.
+ghost use Prim.Native.Nat.{_≤_};
+
+pub mod string;
+
+/// A string of 0 to 4,096 page references, by their codes.
+#[derive(Drop)]
+pub struct Trial {
+    codes: [u8; 4096],
+    len: usize,
+    ghost few: { len ≤ 4096 },
+}
