@@ -4,7 +4,6 @@ ghost use lib.ListN.{length};
 ghost use mathlib.Core.List.{[]};
 ghost use mathlib.Core.Path.{_≡_};
 ghost use Prim.Native.Nat.{ℕ, _≤_, _<_};
-
 use crate::Trial;
 use paging::refusal::Refusal;
 
@@ -13,7 +12,10 @@ impl Trial {
     pub fn new() -> Trial
         ensures { λ r. ⌜ string r ≡ [] ⌝ }
     {
-        Trial { codes: [0; 4096], len: 0 }
+        Trial {
+            codes: [0; 4096],
+            len: 0,
+        }
     }
 
     /// The length of the string.
