@@ -1,4 +1,5 @@
 pub mod Sums
+pub mod Sets
 pub mod Next
 pub mod Hindmost
 pub mod Models

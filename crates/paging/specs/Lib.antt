@@ -1,4 +1,6 @@
 pub mod Pages
+pub mod Flags
+pub mod Sets
 pub mod Schedules
 pub mod Models
 pub mod Rankings

@@ -2,4 +2,5 @@
 pub mod frames;
 pub mod policy;
 pub mod refusal;
+pub mod set;
 pub mod theorems;
