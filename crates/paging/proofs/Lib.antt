@@ -1,5 +1,9 @@
 pub mod Sums
 pub mod Sets
+pub mod Sizes
 pub mod Next
 pub mod Hindmost
 pub mod Models
+pub mod Orders
+pub mod Near
+pub mod FewestPulls

@@ -5,6 +5,6 @@ pub mod Schedules
 pub mod Models
 pub mod Rankings
 pub mod Policies
+pub mod Theorems
 pub mod Refusals
 pub mod Frames
-pub mod Theorems

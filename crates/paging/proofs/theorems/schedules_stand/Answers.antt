@@ -1,0 +1,6 @@
+use Rattle.paging.proofs.Sizes.{pulls-balance}
+use Rattle.paging.proofs.FewestPulls.{min-pulls-least}
+use Rattle.paging.proofs.theorems.schedules_stand.Needs as need
+
+pub returns : need.returns
+returns c = record { balance = pulls-balance; least = min-pulls-least }
