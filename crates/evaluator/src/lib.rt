@@ -2,6 +2,7 @@
 ghost use Prim.Native.Nat.{_≤_};
 
 pub mod string;
+pub mod working;
 
 /// A string of 0 to 4,096 page references, by their codes.
 #[derive(Drop)]

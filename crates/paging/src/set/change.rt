@@ -9,7 +9,10 @@ impl PageSet {
     pub fn new() -> PageSet
         ensures { λ r. ⌜ pages r ≡ nothing ⌝ }
     {
-        PageSet { held: [false; 256], count: 0 }
+        PageSet {
+            held: [false; 256],
+            count: 0,
+        }
     }
 
     /// How many pages the set has.

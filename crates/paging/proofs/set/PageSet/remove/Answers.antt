@@ -14,8 +14,7 @@ sub-self c =
     omega (arith, count-out (c .args .self .now .held) (c .args .code) (c .args .self .now .count) (omega arith) (omega arith) (c .if-self-code .taken) (c .args .self .now .counted))
 
 pub ghost-self : need.ghost-self
-ghost-self c =
-    (
-      omega (arith, count-out (c .args .self .now .held) (c .args .code) (c .args .self .now .count) (omega arith) (omega arith) (c .if-self-code .taken) (c .args .self .now .counted)),
-      (simp length-set (c .args .self .now .wide), tt),
-    )
+ghost-self c = (
+  omega (arith, count-out (c .args .self .now .held) (c .args .code) (c .args .self .now .count) (omega arith) (omega arith) (c .if-self-code .taken) (c .args .self .now .counted)),
+  (simp length-set (c .args .self .now .wide), tt),
+)
