@@ -1,0 +1,37 @@
+-- What the calls of a trial answer, of its string. Assumes nothing.
+use mathlib.Core.Bool.{cond}
+use mathlib.Core.List.{List, []}
+use Prim.Native.Nat.{ℕ}
+use lib.Dec.{eqb}
+use Rattle.std.specs.declared.result.Result.{Result}
+use Rattle.std.specs.declared.result.Result.the-variants.{Ok, Err}
+use Rattle.paging.specs.declared.policy.Policy.{Policy}
+use Rattle.paging.specs.declared.policy.Policy.the-variants.{Lru, Min, Dpmin, Fifo}
+use Rattle.paging.specs.declared.refusal.Refusal.{Refusal}
+use Rattle.paging.specs.declared.refusal.Refusal.the-variants.{UnknownLetter, BadFrameCount, PagerHoldsPages}
+use Rattle.paging.specs.Frames.{is-frames}
+use Rattle.paging.specs.Pages.{size}
+use Rattle.paging.specs.Models.{PagerModel, instants-on, pulls-on}
+use Rattle.paging.specs.Policies.{instants, pulls-of}
+
+-- the policy of a letter: L, M, D or F
+abbrev pub policy-of : ℕ → Result Policy Refusal
+policy-of l =
+    cond (eqb l 76) (Ok Lru) (cond (eqb l 77) (Ok Min) (cond (eqb l 68) (Ok Dpmin) (cond (eqb l 70) (Ok Fifo) (Err UnknownLetter))))
+
+-- an answer that goes on from another, or is refused as that is
+abbrev pub and-then : {X Y E : Type 0} → Result X E → (X → Result Y E) → Result Y E
+and-then (Ok x) f = f x
+and-then (Err e) f = Err e
+
+-- what a call with a letter and a frame count answers: the letter is looked at first
+abbrev pub by-policy : {Y : Type 0} → ℕ → ℕ → (Policy → Result Y Refusal) → Result Y Refusal
+by-policy l f go = and-then (policy-of l) (λ p. cond (is-frames f) (go p) (Err BadFrameCount))
+
+-- figures: the fault instants and the pulls of the policy's schedule
+abbrev pub figures-answer : ℕ → ℕ → List ℕ → Result (ℕ × ℕ) Refusal
+figures-answer l f s = by-policy l f (λ p. Ok (instants p f s, pulls-of p f s))
+
+-- run: the fault instants and the pulls of a pager that holds nothing
+abbrev pub run-answer : PagerModel → List ℕ → Result (ℕ × ℕ) Refusal
+run-answer b s = cond (eqb (size (b [])) 0) (Ok (instants-on b s, pulls-on b s)) (Err PagerHoldsPages)
