@@ -7,3 +7,5 @@ pub mod Models
 pub mod Orders
 pub mod Near
 pub mod FewestPulls
+pub mod Foremost
+pub mod FewestFaults

@@ -38,6 +38,16 @@ total-zero (suc n) g e =
     let q = e n (omega arith) in
     omega arith
 
+-- a longer sum is no less
+pub total-longer : (m n : ℕ) (g : ℕ → ℕ) → m ≤ n → total m g ≤ total n g
+unfolding total
+total-longer m zero g l = let e : m ≡ 0 = omega arith in rw e (omega arith)
+total-longer m (suc n) g l = go (cases-eq m (suc n)) (total-longer m n g)
+  where
+    go : (m ≡ suc n) ⊎ (m ≡ suc n → ⊥) → (m ≤ n → total m g ≤ total n g) → total m g ≤ total (suc n) g
+    go (inl e) _ = rw e (omega arith)
+    go (inr ne) r = omega (arith, r (omega arith))
+
 -- two sums against two sums, number by number
 pub total-le₂ : (n : ℕ) (a b c d : ℕ → ℕ) → ((i : ℕ) → i < n → a i + b i ≤ c i + d i) → total n a + total n b ≤ total n c + total n d
 total-le₂ n a b c d e =

@@ -1,12 +1,13 @@
 -- What is proved of all schedules, pagers, rankings and policies. Assumes nothing.
 use mathlib.Core.Path.{_≡_}
+use mathlib.Core.Bool.{false}
 use mathlib.Core.List.{List, []}
 use Prim.Native.Nat.{ℕ, _+_, _≤_, _<_}
-use lib.ListN.{length}
+use lib.ListN.{length, getD}
 use Rattle.paging.specs.Pages.{codes, Pages, size}
-use Rattle.paging.specs.Schedules.{Coded, Holding, Schedule-to, Schedule, Prepages, pulls, releases}
+use Rattle.paging.specs.Schedules.{Coded, Holding, Schedule-to, Schedule, Prepages-to, Prepages, pulls, releases, faults}
 use Rattle.paging.specs.Models.{PagerModel, Keeps, held-on}
-use Rattle.paging.specs.Policies.{Demand, Furthest}
+use Rattle.paging.specs.Policies.{dpmin, Demand, Furthest}
 
 -- a pager that keeps its laws makes a schedule, and pulls only at its fault instants
 abbrev pub Pagers-schedule : Type 0
@@ -24,3 +25,25 @@ Min-pulls-least =
     (f : ℕ) (B : Pages) (s : List ℕ) (K H : Holding) (p : ℕ) → Coded s →
     Demand (Furthest s K) f s K → ((c : ℕ) → c < codes → K 0 c ≡ B c) → p ≤ length s →
     Schedule-to p f B s H → pulls K p ≤ pulls H p
+
+-- up to every place, DPMIN has faulted no more often than any schedule, from the same set in as many frames, that pulls only at its faults
+abbrev pub Dpmin-faults-least : Type 0
+Dpmin-faults-least =
+    (f : ℕ) (B : Pages) (s : List ℕ) (H : Holding) (p : ℕ) → Coded s → p ≤ length s →
+    Schedule-to p f B s H → Prepages-to p s H → faults s (held-on (dpmin f B) s) p ≤ faults s H p
+
+-- the reference number t is the fault instant number k of the schedule; both are counted from 0
+pub record Instant (s : List ℕ) (H : Holding) (k t : ℕ) : Type 0 where
+  pub below : t < length s
+  pub fault : H t (getD s t 0) ≡ false
+  pub earlier : faults s H t ≡ k
+
+-- of two fault instants of one number, DPMIN's is never the earlier
+abbrev pub Dpmin-faults-latest : Type 0
+Dpmin-faults-latest =
+    (f : ℕ) (B : Pages) (s : List ℕ) (H : Holding) (k t u : ℕ) → Coded s → Schedule f B s H → Prepages s H →
+    Instant s (held-on (dpmin f B) s) k t → Instant s H k u → u ≤ t
+
+-- DPMIN keeps the laws of a pager
+abbrev pub Dpmin-keeps : Type 0
+Dpmin-keeps = (f : ℕ) (B : Pages) → 1 ≤ f → f ≤ 64 → size B ≤ f → Keeps f (dpmin f B)

@@ -1,5 +1,6 @@
 use Rattle.paging.proofs.Models.{pager-schedules}
+use Rattle.paging.proofs.Foremost.{dpmin-keeps}
 use Rattle.paging.proofs.theorems.pagers_stand.Needs as need
 
 pub returns : need.returns
-returns c = pager-schedules
+returns c = record { schedule = pager-schedules; dpmin = dpmin-keeps }
