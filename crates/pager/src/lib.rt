@@ -1,4 +1,7 @@
 //! Pagers.
+pub mod runs;
+
+
 ghost use Prim.Native.Nat.{ℕ};
 ghost use Rattle.paging.specs.Models.{Keeps, PagerModel, served};
 ghost use Rattle.paging.specs.Pages.{size};
