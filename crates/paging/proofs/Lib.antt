@@ -1,6 +1,7 @@
 pub mod Sums
 pub mod Sets
 pub mod Sizes
+pub mod Queues
 pub mod Next
 pub mod Hindmost
 pub mod Models

@@ -12,7 +12,8 @@ use Rattle.std.proofs.shelf.Lists.{getD-set-same, getD-set-other, getD-past, ge
 use Rattle.std.proofs.shelf.Tests.{eq-eqb, ne-eqb, cases-eq, cases-bool, cases-lt, both-ways}
 use Rattle.paging.specs.Pages.{bit, total, codes, Pages, nothing, size, with-page, without}
 use Rattle.paging.specs.Flags.{flagged}
-use Rattle.paging.proofs.Sums.{total-zero, total-le, total-add, only-one}
+use Rattle.paging.specs.Schedules.{pulled}
+use Rattle.paging.proofs.Sums.{total-zero, total-le, total-add, only-one, only-most}
 
 pub total-same : (n : ℕ) (g h : ℕ → ℕ) → ((c : ℕ) → c < n → g c ≡ h c) → total n g ≡ total n h
 total-same n g h e = omega (arith, total-le n g h (λ c l. omega (arith, e c l)), total-le n h g (λ c l. omega (arith, e c l)))
@@ -74,12 +75,38 @@ without-same z M h = fun-ext (λ c. each c (cases-eq z c))
     each c (inl e) = rw (← e, h) (grind (arith, tells))
     each c (inr ne) = rw (ne-eqb z c ne)
 
-pub size-with : (x : ℕ) (M : Pages) → x < codes → size (with-page x M) ≤ size M + 1
-size-with x M l = go (cases-bool (M x))
+pub size-with : (x : ℕ) (M : Pages) → size (with-page x M) ≤ size M + 1
+size-with x M =
+    omega (
+      arith,
+      only-most codes x true,
+      total-add codes (λ c. bit (M c)) (λ c. bit (eqb x c && true)),
+      total-le codes (λ c. bit (eqb x c || M c)) (λ c. bit (M c) + bit (eqb x c && true)) (λ c _. each (eqb x c) (M c)),
+    )
   where
-    go : (M x ≡ true) ⊎ (M x ≡ false) → size (with-page x M) ≤ size M + 1
-    go (inl m) = omega (arith, ap size (with-same x M m))
-    go (inr m) = omega (arith, size-in x M l m)
+    each : (a b : Bool) → bit (a || b) ≤ bit b + bit (a && true)
+    each a b = grind arith
+
+-- how many pages come
+pub none-pulled : (M : Pages) → pulled M M ≡ 0
+none-pulled M = total-zero codes (λ c. bit (M c && not (M c))) (λ c _. each (M c))
+  where
+    each : (b : Bool) → bit (b && not b) ≡ 0
+    each true = refl
+    each false = refl
+
+pub one-pulled : (x : ℕ) (M N : Pages) → x < codes → M x ≡ false → ((c : ℕ) → N c ≡ true → M c ≡ true) → pulled M (with-page x N) ≡ 1
+one-pulled x M N l out less =
+    omega (
+      arith,
+      only-one codes x true l,
+      total-same codes (λ c. bit ((eqb x c || N c) && not (M c))) (λ c. bit (eqb x c && true)) (λ c _. each c (cases-eq x c) (cases-bool (N c))),
+    )
+  where
+    each : (c : ℕ) → (x ≡ c) ⊎ (x ≡ c → ⊥) → (N c ≡ true) ⊎ (N c ≡ false) → bit ((eqb x c || N c) && not (M c)) ≡ bit (eqb x c && true)
+    each c (inl e) _ = rw (← e, eq-eqb x x refl, out)
+    each c (inr ne) (inl n) = rw (ne-eqb x c ne, n, less c n)
+    each c (inr ne) (inr n) = rw (ne-eqb x c ne, n)
 
 -- a set as a row of flags
 pub flagged-none : (n : ℕ) → flagged (replicate n false) ≡ nothing

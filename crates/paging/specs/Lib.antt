@@ -1,6 +1,7 @@
 pub mod Pages
 pub mod Flags
 pub mod Sets
+pub mod Queues
 pub mod Schedules
 pub mod Models
 pub mod Rankings
