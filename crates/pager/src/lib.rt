@@ -1,4 +1,5 @@
 //! Pagers.
+pub mod fifo;
 pub mod runs;
 
 

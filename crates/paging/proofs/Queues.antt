@@ -147,3 +147,25 @@ module _ (f : ℕ) (some : 1 ≤ f) (most : f ≤ 64) where
   pub fifo-keeps : (q : List ℕ) → length q ≤ f → Keeps f (fifo f q)
   fifo-keeps q few =
       stepping-keeps (fifo-step f) has (λ p. length p ≤ f) keep f some most (λ p. refl) (λ p i. omega (arith, size-has p)) serve q few
+
+-- no page stands twice
+pub once-in : (f x : ℕ) (q : List ℕ) → once q ≡ true → has q x ≡ false → once (fifo-in f x q) ≡ true
+once-in f x q o out = go (cases-bool (leb f (length q)))
+  where
+    less : has (drop 1 q) x ≡ false
+    less = but (cases-bool (has (drop 1 q) x))
+      where
+        but : (has (drop 1 q) x ≡ true) ⊎ (has (drop 1 q) x ≡ false) → has (drop 1 q) x ≡ false
+        but (inl h) = absurd (both-ways (has q x) out (has-rest q x h))
+        but (inr h) = h
+
+    go : (leb f (length q) ≡ true) ⊎ (leb f (length q) ≡ false) → once (fifo-in f x q) ≡ true
+    go (inl e) = rw e (once-push (drop 1 q) x (once-rest q o) less)
+    go (inr e) = rw e (once-push q x o out)
+
+pub coded-in : (f x : ℕ) (q : List ℕ) → coded q ≡ true → x < codes → coded (fifo-in f x q) ≡ true
+coded-in f x q o l = go (cases-bool (leb f (length q)))
+  where
+    go : (leb f (length q) ≡ true) ⊎ (leb f (length q) ≡ false) → coded (fifo-in f x q) ≡ true
+    go (inl e) = rw e (coded-push (drop 1 q) x (coded-rest q o) l)
+    go (inr e) = rw e (coded-push q x o l)

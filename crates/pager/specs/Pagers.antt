@@ -1,0 +1,17 @@
+-- What each pager of the code stands for. Assumes nothing.
+use mathlib.Core.List.{List}
+use Prim.Native.Nat.{ℕ}
+use Rattle.paging.specs.Models.{PagerModel}
+use Rattle.paging.specs.Policies.{fifo}
+use Rattle.pager.specs.Tables.{codes-of, queue}
+use Rattle.pager.specs.declared.fifo.FifoPager.{FifoPager}
+
+-- the pages held, the one pulled longest ago first
+abbrev pub queue-of : FifoPager → List ℕ
+queue-of p = queue (p .used) (p .hand) (codes-of (p .frames))
+
+abbrev pub fifo-model : FifoPager → PagerModel
+fifo-model p = fifo (p .room) (queue-of p)
+
+abbrev pub fifo-room : FifoPager → ℕ
+fifo-room p = p .room
