@@ -1,7 +1,10 @@
-//! Rankings of the codes.
+//! Rankings of the codes, and the faults of their own runs at every frame count from one pass.
 ghost use Rattle.paging.specs.Rankings.{Orders, RankingModel, telling, told};
 ghost use mathlib.Core.List.{[]};
 ghost use mathlib.Core.Path.{_≡_};
+
+pub mod last_reference;
+pub mod next_reference;
 
 /// An order of all 256 codes that moves as it is told of references.
 ///
