@@ -1,3 +1,5 @@
 pub mod Tables
 pub mod Lists
 pub mod Stacks
+pub mod Places
+pub mod Settles

@@ -5,9 +5,10 @@ use mathlib.Core.Bool.{Bool, true, false, cond, not, _&&_, _||_}
 use mathlib.Core.Logic.{_⊎_, inl, inr}
 use Prim.Native.Nat.{ℕ, zero, suc, _+_, _<_, _≤_}
 use native.Mathlib.Omega.{arith}
-use lib.ListN.{length, take}
+use lib.ListN.{length, take, getD}
 use lib.Dec.{eqb, ltb}
-use Rattle.std.proofs.shelf.Tests.{cases-eq, lt-ltb, ltb-true, eq-eqb, ne-eqb, eqb-true, or-parts, or-from, or-cases, and-parts, and-from, not-from-false, not-true, both-ways}
+use Rattle.std.proofs.shelf.Lists.{take-take, take-all, take-more}
+use Rattle.std.proofs.shelf.Tests.{cases-eq, or-left, or-right, lt-ltb, ltb-true, eq-eqb, ne-eqb, eqb-true, or-parts, or-from, or-cases, and-parts, and-from, not-from-false, not-true, both-ways}
 use Rattle.paging.specs.Pages.{bit, total, codes, Pages, size, has}
 use Rattle.paging.proofs.Sums.{total-add, total-zero, only-one}
 
@@ -97,3 +98,20 @@ size-has (x ∷ xs) a l =
 
     added : has xs x ≡ false → (c : ℕ) → bit (eqb x c || has xs c) ≡ bit (eqb x c && true) + bit (has xs c)
     added out c = both (eqb x c) (has xs c) (λ e. subst (λ (y : ℕ). has xs y ≡ false) (eqb-true x c e) out)
+
+-- whether a code is among the first k
+pub has-at : (xs : List ℕ) (f k c : ℕ) → f < length xs → f < k → getD xs f 0 ≡ c → has (take k xs) c ≡ true
+has-at [] f k c h l e = absurd (omega arith)
+has-at (x ∷ xs) f zero c h l e = absurd (omega arith)
+has-at (x ∷ xs) zero (suc k) c h l e = or-left (eqb x c) (has (take k xs) c) (eq-eqb x c e)
+has-at (x ∷ xs) (suc f) (suc k) c h l e = or-right (eqb x c) (has (take k xs) c) (has-at xs f k c (omega arith) (omega arith) e)
+
+pub has-before : (xs : List ℕ) (k f c : ℕ) → k ≤ f → has (take f xs) c ≡ false → has (take k xs) c ≡ false
+has-before xs k f c h e = ap (λ (zs : List ℕ). has zs c) (sym (take-take k f xs h)) ∙ has-take c k (take f xs) e
+
+pub has-next : (xs : List ℕ) (f c : ℕ) → f < length xs → has (take f xs) c ≡ false → (getD xs f 0 ≡ c → ⊥) → has (take (f + 1) xs) c ≡ false
+has-next xs f c h e n =
+    ap (λ (zs : List ℕ). has zs c) (take-more xs f 0 h) ∙ has-push c (getD xs f 0) (take f xs) ∙ or-from _ _ (ne-eqb (getD xs f 0) c n) e
+
+pub has-past : (xs : List ℕ) (f c : ℕ) → length xs ≤ f → has (take f xs) c ≡ false → has (take (f + 1) xs) c ≡ false
+has-past xs f c h e = ap (λ (zs : List ℕ). has zs c) (take-all (f + 1) xs (omega arith) ∙ sym (take-all f xs h)) ∙ e

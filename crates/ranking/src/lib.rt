@@ -5,6 +5,7 @@ ghost use mathlib.Core.Path.{_≡_};
 
 pub mod last_reference;
 pub mod next_reference;
+pub mod pass;
 
 /// An order of all 256 codes that moves as it is told of references.
 ///
