@@ -3,3 +3,4 @@ pub mod Lists
 pub mod Stacks
 pub mod Places
 pub mod Settles
+pub mod Passes

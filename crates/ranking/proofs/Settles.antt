@@ -27,7 +27,7 @@ module _ (o : ℕ → ℕ → Bool) (p : ℕ) (cur : List ℕ) (whole : length c
       found t =
           let e : u ≡ take i cur ++ c ∷ drop (i + 1) (take depth cur) = opened ∙ rw t in
           let f : take depth (set cur i c) ≡ take i cur ++ c ∷ drop (i + 1) (take depth cur) =
-              take-set-lt depth cur i c h ∙ set-split (take depth cur) i c (omega (arith, cut)) ∙ rw (take-take i depth cur (omega arith), add-one) in
+          take-set-lt depth cur i c h ∙ set-split (take depth cur) i c (omega (arith, cut)) ∙ rw (take-take i depth cur (omega arith), add-one) in
           let l : length (take depth (set cur i c)) ≡ depth = length-take depth (set cur i c) ∙ omega (arith, length-set cur i c, whole, small) in
           let g : take depth (set cur i c) ≡ u = f ∙ sym e in
           g ∙ sym (take-all 64 u (subst (λ (zs : List ℕ). length zs ≤ 64) g (omega (arith, l, small))))

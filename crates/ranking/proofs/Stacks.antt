@@ -38,16 +38,16 @@ module _ (o : ℕ → ℕ → Bool) (p : ℕ) where
   has-sift d c (x ∷ xs) a n =
       let q = and-parts (not (has xs x)) (apart xs) a in
       elim (cases-bool (eqb x p)) [
-        inl t ↦
-          (let e = eqb-true x p t in
-           let out : has xs p ≡ false = subst (λ (y : ℕ). has xs y ≡ false) e (not-true _ (q .0)) in
-           rw (t, e) (keep (eqb c d) (eqb p d) (has xs d) (λ m. ne-eqb p d (λ h. both-ways (has xs p) out (subst (λ (y : ℕ). has xs y ≡ true) (sym h) m)))))
-      | inr t ↦
-          (let other : eqb x d ≡ true → not (eqb p d) ≡ true = λ e. not-from-false _ (subst (λ (y : ℕ). eqb p y ≡ false) (eqb-true x d e) (eqb-flip p x ∙ t)) in
-           elim (cases-bool (o c x)) [
-            inl u ↦ (rw (t, u, has-sift d x xs (q .1) t) (ap (λ (z : Bool). eqb c d || z) (carry-on (eqb x d) (has xs d) (not (eqb p d)) other)))
-          | inr u ↦ (rw (t, u, has-sift d c xs (q .1) n) (pass-on (eqb x d) (eqb c d) (has xs d) (not (eqb p d)) other))
-          ])
+        | inl t ↦
+            (let e = eqb-true x p t in
+            let out : has xs p ≡ false = subst (λ (y : ℕ). has xs y ≡ false) e (not-true _ (q .0)) in
+            rw (t, e) (keep (eqb c d) (eqb p d) (has xs d) (λ m. ne-eqb p d (λ h. both-ways (has xs p) out (subst (λ (y : ℕ). has xs y ≡ true) (sym h) m)))))
+        | inr t ↦
+            (let other : eqb x d ≡ true → not (eqb p d) ≡ true = λ e. not-from-false _ (subst (λ (y : ℕ). eqb p y ≡ false) (eqb-true x d e) (eqb-flip p x ∙ t)) in
+            elim (cases-bool (o c x)) [
+              | inl u ↦ (rw (t, u, has-sift d x xs (q .1) t) (ap (λ (z : Bool). eqb c d || z) (carry-on (eqb x d) (has xs d) (not (eqb p d)) other)))
+              | inr u ↦ (rw (t, u, has-sift d c xs (q .1) n) (pass-on (eqb x d) (eqb c d) (has xs d) (not (eqb p d)) other))
+            ])
       ]
 
   pub apart-sift : (c : ℕ) (xs : List ℕ) → apart (c ∷ xs) ≡ true → eqb c p ≡ false → apart (sift o p c xs) ≡ true
@@ -57,12 +57,12 @@ module _ (o : ℕ → ℕ → Bool) (p : ℕ) where
       let r = and-parts (not (has xs x)) (apart xs) (q .1) in
       let s = or-parts (eqb x c) (has xs c) (not-true _ (q .0)) in
       elim (cases-bool (eqb x p)) [
-        inl t ↦ (rw t (and-from _ _ (not-from-false _ (s .1)) (r .1)))
-      | inr t ↦
-          (elim (cases-bool (o c x)) [
-            inl u ↦ (rw (t, u) (and-from _ _ (not-from-false _ (has-sift c x xs (r .1) t ∙ rw (s .0, s .1))) (apart-sift x xs (q .1) t)))
-          | inr u ↦ (rw (t, u) (and-from _ _ (not-from-false _ (has-sift x c xs (r .1) n ∙ rw (eqb-flip c x ∙ s .0, not-true _ (r .0)))) (apart-sift c xs (and-from _ _ (not-from-false _ (s .1)) (r .1)) n)))
-          ])
+        | inl t ↦ (rw t (and-from _ _ (not-from-false _ (s .1)) (r .1)))
+        | inr t ↦
+            (elim (cases-bool (o c x)) [
+              | inl u ↦ (rw (t, u) (and-from _ _ (not-from-false _ (has-sift c x xs (r .1) t ∙ rw (s .0, s .1))) (apart-sift x xs (q .1) t)))
+              | inr u ↦ (rw (t, u) (and-from _ _ (not-from-false _ (has-sift x c xs (r .1) n ∙ rw (eqb-flip c x ∙ s .0, not-true _ (r .0)))) (apart-sift c xs (and-from _ _ (not-from-false _ (s .1)) (r .1)) n)))
+            ])
       ]
 
   pub low-sift : (c : ℕ) (xs : List ℕ) → low (c ∷ xs) ≡ true → low (sift o p c xs) ≡ true
@@ -71,12 +71,12 @@ module _ (o : ℕ → ℕ → Bool) (p : ℕ) where
       let q = and-parts (ltb c codes) (low (x ∷ xs)) l in
       let r = and-parts (ltb x codes) (low xs) (q .1) in
       elim (cases-bool (eqb x p)) [
-        inl t ↦ (rw t (and-from _ _ (q .0) (r .1)))
-      | inr t ↦
-          (elim (cases-bool (o c x)) [
-            inl u ↦ (rw (t, u) (and-from _ _ (q .0) (low-sift x xs (q .1))))
-          | inr u ↦ (rw (t, u) (and-from _ _ (r .0) (low-sift c xs (and-from _ _ (q .0) (r .1)))))
-          ])
+        | inl t ↦ (rw t (and-from _ _ (q .0) (r .1)))
+        | inr t ↦
+            (elim (cases-bool (o c x)) [
+              | inl u ↦ (rw (t, u) (and-from _ _ (q .0) (low-sift x xs (q .1))))
+              | inr u ↦ (rw (t, u) (and-from _ _ (r .0) (low-sift c xs (and-from _ _ (q .0) (r .1)))))
+            ])
       ]
 
   -- the first k pages come from the first k
@@ -85,25 +85,25 @@ module _ (o : ℕ → ℕ → Bool) (p : ℕ) where
   take-sift (suc k) c [] = refl
   take-sift (suc k) c (x ∷ xs) =
       elim (cases-bool (eqb x p)) [
-        inl t ↦ (rw t (ap (λ (ys : List ℕ). c ∷ ys) (sym (take-take k k xs (omega arith)))))
-      | inr t ↦
-          (elim (cases-bool (o c x)) [
-            inl u ↦ (rw (t, u) (ap (λ (ys : List ℕ). c ∷ ys) (take-sift k x xs)))
-          | inr u ↦ (rw (t, u) (ap (λ (ys : List ℕ). x ∷ ys) (take-sift k c xs)))
-          ])
+        | inl t ↦ (rw t (ap (λ (ys : List ℕ). c ∷ ys) (sym (take-take k k xs (omega arith)))))
+        | inr t ↦
+            (elim (cases-bool (o c x)) [
+              | inl u ↦ (rw (t, u) (ap (λ (ys : List ℕ). c ∷ ys) (take-sift k x xs)))
+              | inr u ↦ (rw (t, u) (ap (λ (ys : List ℕ). x ∷ ys) (take-sift k c xs)))
+            ])
       ]
 
   pub length-sift : (c : ℕ) (xs : List ℕ) → has xs p ≡ true → length (sift o p c xs) ≡ length xs
   length-sift c [] m = absurd (both-ways false refl m)
   length-sift c (x ∷ xs) m =
       elim (cases-bool (eqb x p)) [
-        inl t ↦ (rw t)
-      | inr t ↦
-          (let below : has xs p ≡ true = elim (or-cases (eqb x p) (has xs p) m) [ inl e ↦ absurd (both-ways (eqb x p) t e) | inr k ↦ k ] in
-           elim (cases-bool (o c x)) [
-            inl u ↦ (rw (t, u) (ap suc (length-sift x xs below)))
-          | inr u ↦ (rw (t, u) (ap suc (length-sift c xs below)))
-          ])
+        | inl t ↦ (rw t)
+        | inr t ↦
+            (let below : has xs p ≡ true = elim (or-cases (eqb x p) (has xs p) m) [ inl e ↦ absurd (both-ways (eqb x p) t e) | inr k ↦ k ] in
+            elim (cases-bool (o c x)) [
+              | inl u ↦ (rw (t, u) (ap suc (length-sift x xs below)))
+              | inr u ↦ (rw (t, u) (ap suc (length-sift c xs below)))
+            ])
       ]
 
 -- of x and the others, the page that is behind all the rest
@@ -123,8 +123,8 @@ sift-front o p c (x ∷ xs) m =
     let q = or-parts (eqb x p) (has xs p) m in
     let t = q .0 in
     elim (cases-bool (o c x)) [
-      inl u ↦ (rw (t, u) (ap (λ (ys : List ℕ). c ∷ ys) (sift-front o p x xs (q .1))))
-    | inr u ↦ (rw (t, u) (ap (λ (ys : List ℕ). x ∷ ys) (sift-front o p c xs (q .1))))
+      | inl u ↦ (rw (t, u) (ap (λ (ys : List ℕ). c ∷ ys) (sift-front o p x xs (q .1))))
+      | inr u ↦ (rw (t, u) (ap (λ (ys : List ℕ). x ∷ ys) (sift-front o p c xs (q .1))))
     ]
 
 length-front : (o : ℕ → ℕ → Bool) (c : ℕ) (xs : List ℕ) → length (front o c xs) ≡ length xs
@@ -137,16 +137,16 @@ module _ (o : ℕ → ℕ → Bool) (order : Order o) where
   behind-has x [] = or-left _ _ (eqb-self x)
   behind-has x (y ∷ ys) =
       elim (cases-bool (o x y)) [
-        inl u ↦
-          (let e : behind o x (y ∷ ys) ≡ behind o y ys = rw u in
-           subst (λ (w : ℕ). has (x ∷ y ∷ ys) w ≡ true) (sym e) (or-right (eqb x (behind o y ys)) _ (behind-has y ys)))
-      | inr u ↦
-          (let e : behind o x (y ∷ ys) ≡ behind o x ys = rw u in
-           subst (λ (w : ℕ). has (x ∷ y ∷ ys) w ≡ true) (sym e)
-           (elim (or-cases (eqb x (behind o x ys)) (has ys (behind o x ys)) (behind-has x ys)) [
-             inl e ↦ or-left _ _ e
-           | inr e ↦ or-right (eqb x (behind o x ys)) _ (or-right (eqb y (behind o x ys)) _ e)
-           ]))
+        | inl u ↦
+            (let e : behind o x (y ∷ ys) ≡ behind o y ys = rw u in
+            subst (λ (w : ℕ). has (x ∷ y ∷ ys) w ≡ true) (sym e) (or-right (eqb x (behind o y ys)) _ (behind-has y ys)))
+        | inr u ↦
+            (let e : behind o x (y ∷ ys) ≡ behind o x ys = rw u in
+            subst (λ (w : ℕ). has (x ∷ y ∷ ys) w ≡ true) (sym e)
+            (elim (or-cases (eqb x (behind o x ys)) (has ys (behind o x ys)) (behind-has x ys)) [
+              | inl e ↦ or-left _ _ e
+              | inr e ↦ or-right (eqb x (behind o x ys)) _ (or-right (eqb y (behind o x ys)) _ e)
+            ]))
       ]
 
   lift : (d v w : ℕ) → d < codes → v < codes → w < codes → (v ≡ w) ⊎ (o v w ≡ true) → o d v ≡ true → (d ≡ w) ⊎ (o d w ≡ true)
@@ -163,32 +163,32 @@ module _ (o : ℕ → ℕ → Bool) (order : Order o) where
       let y< = ltb-true y codes (r .0) in
       let xl : low (x ∷ ys) ≡ true = and-from _ _ (q .0) (r .1) in
       elim (cases-bool (o x y)) [
-        inl u ↦
-          (let e : behind o x (y ∷ ys) ≡ behind o y ys = rw u in
-           subst (λ (w : ℕ). (d ≡ w) ⊎ (o d w ≡ true)) (sym e)
-           (elim (or-cases (eqb x d) (has (y ∷ ys) d) m) [
-             inl h ↦
-               (subst (λ (z : ℕ). (z ≡ behind o y ys) ⊎ (o z (behind o y ys) ≡ true)) (eqb-true x d h)
-                (lift x y (behind o y ys) x< y< (low-has _ (y ∷ ys) (q .1) (behind-has y ys)) (behind-all y ys y (q .1) (or-left _ _ (eqb-self y))) u))
-           | inr h ↦ behind-all y ys d (q .1) h
-           ]))
-      | inr u ↦
-          (let e : behind o x (y ∷ ys) ≡ behind o x ys = rw u in
-           let top = behind-all x ys x xl (or-left _ _ (eqb-self x)) in
-           subst (λ (w : ℕ). (d ≡ w) ⊎ (o d w ≡ true)) (sym e)
-           (elim (or-cases (eqb x d) (has (y ∷ ys) d) m) [
-             inl h ↦ subst (λ (z : ℕ). (z ≡ behind o x ys) ⊎ (o z (behind o x ys) ≡ true)) (eqb-true x d h) top
-           | inr h ↦
-               (elim (or-cases (eqb y d) (has ys d) h) [
-                 inl k ↦
-                   (subst (λ (z : ℕ). (z ≡ behind o x ys) ⊎ (o z (behind o x ys) ≡ true)) (eqb-true y d k)
-                    (elim (cases-eq x y) [
-                      inl s ↦ subst (λ (z : ℕ). (z ≡ behind o x ys) ⊎ (o z (behind o x ys) ≡ true)) s top
-                    | inr n ↦ lift y x (behind o x ys) y< x< (low-has _ (x ∷ ys) xl (behind-has x ys)) top (order .one x y x< y< n ∙ not-from-false _ u)
-                    ]))
-               | inr k ↦ behind-all x ys d xl (or-right (eqb x d) _ k)
-               ])
-           ]))
+        | inl u ↦
+            (let e : behind o x (y ∷ ys) ≡ behind o y ys = rw u in
+            subst (λ (w : ℕ). (d ≡ w) ⊎ (o d w ≡ true)) (sym e)
+            (elim (or-cases (eqb x d) (has (y ∷ ys) d) m) [
+              | inl h ↦
+                  (subst (λ (z : ℕ). (z ≡ behind o y ys) ⊎ (o z (behind o y ys) ≡ true)) (eqb-true x d h)
+                  (lift x y (behind o y ys) x< y< (low-has _ (y ∷ ys) (q .1) (behind-has y ys)) (behind-all y ys y (q .1) (or-left _ _ (eqb-self y))) u))
+              | inr h ↦ behind-all y ys d (q .1) h
+            ]))
+        | inr u ↦
+            (let e : behind o x (y ∷ ys) ≡ behind o x ys = rw u in
+            let top = behind-all x ys x xl (or-left _ _ (eqb-self x)) in
+            subst (λ (w : ℕ). (d ≡ w) ⊎ (o d w ≡ true)) (sym e)
+            (elim (or-cases (eqb x d) (has (y ∷ ys) d) m) [
+              | inl h ↦ subst (λ (z : ℕ). (z ≡ behind o x ys) ⊎ (o z (behind o x ys) ≡ true)) (eqb-true x d h) top
+              | inr h ↦
+                  (elim (or-cases (eqb y d) (has ys d) h) [
+                    | inl k ↦
+                        (subst (λ (z : ℕ). (z ≡ behind o x ys) ⊎ (o z (behind o x ys) ≡ true)) (eqb-true y d k)
+                        (elim (cases-eq x y) [
+                          | inl s ↦ subst (λ (z : ℕ). (z ≡ behind o x ys) ⊎ (o z (behind o x ys) ≡ true)) s top
+                          | inr n ↦ lift y x (behind o x ys) y< x< (low-has _ (x ∷ ys) xl (behind-has x ys)) top (order .one x y x< y< n ∙ not-from-false _ u)
+                        ]))
+                    | inr k ↦ behind-all x ys d xl (or-right (eqb x d) _ k)
+                  ])
+            ]))
       ]
 
   -- it is the page that goes
@@ -303,8 +303,8 @@ module _ (o : ℕ → ℕ → Bool) (order : Order o) (k c : ℕ) where
             let all : take k (sift o c x (take k xs)) ≡ ys = ap (take k) split ∙ take-at ys (w ∷ []) k even in
             let list : take (suc k) (restacked o c (x ∷ xs)) ≡ c ∷ ys = down ∙ ap (λ (zs : List ℕ). c ∷ zs) all in
             let in-ys : (d : ℕ) → has ys d ≡ (not (eqb w d) && (eqb x d || (has (take k xs) d && not (eqb c d)))) =
-                λ d. has-front d w ys (subst (λ (zs : List ℕ). apart zs ≡ true) split (apart-sift o c x (take k xs) xya t)) ∙
-                ap (λ (zs : List ℕ). not (eqb w d) && has zs d) (sym split) ∙ ap (λ (z : Bool). not (eqb w d) && z) (in-sift d) in
+            λ d. has-front d w ys (subst (λ (zs : List ℕ). apart zs ≡ true) split (apart-sift o c x (take k xs) xya t)) ∙
+            ap (λ (zs : List ℕ). not (eqb w d) && has zs d) (sym split) ∙ ap (λ (z : Bool). not (eqb w d) && z) (in-sift d) in
             admit-full (suc k) (hindmost o codes (has (x ∷ take k xs))) c (has (x ∷ take k xs)) out (omega (arith, many)) ∙
             ap (λ (z : ℕ). with-page c (without z (has (x ∷ take k xs)))) (hindmost-behind o order x (take k xs) xyl) ∙
             fun-ext (λ d. swept (eqb c d) (eqb x d) (has (take k xs) d) (not (eqb w d)) ∙ ap (λ (z : Bool). eqb c d || z) (sym (in-ys d)) ∙ ap (λ (zs : List ℕ). has zs d) (sym list))
@@ -314,16 +314,16 @@ module _ (o : ℕ → ℕ → Bool) (order : Order o) (k c : ℕ) where
   held-restacked [] a l = none
   held-restacked (x ∷ xs) a l =
       elim (cases-bool (eqb x c)) [
-        inl t ↦ at-top x xs a l t
-      | inr t ↦
-          (elim (cases-bool (has (take k xs) c)) [
-            inl m ↦ inside x xs a l t m
-          | inr n ↦
-              (elim (cases-lt (length (take k xs)) k) [
-                inl h ↦ free x xs a l t n h
-              | inr h ↦ full x xs a l t n h
-              ])
-          ])
+        | inl t ↦ at-top x xs a l t
+        | inr t ↦
+            (elim (cases-bool (has (take k xs) c)) [
+              | inl m ↦ inside x xs a l t m
+              | inr n ↦
+                  (elim (cases-lt (length (take k xs)) k) [
+                    | inl h ↦ free x xs a l t n h
+                    | inr h ↦ full x xs a l t n h
+                  ])
+            ])
       ]
 
 module _ (o : ℕ → ℕ → Bool) (c : ℕ) where
@@ -333,16 +333,16 @@ module _ (o : ℕ → ℕ → Bool) (c : ℕ) where
   apart-restacked (x ∷ xs) a =
       let q = and-parts (not (has xs x)) (apart xs) a in
       elim (cases-bool (eqb x c)) [
-        inl t ↦ (rw t (subst (λ (z : ℕ). apart (z ∷ xs) ≡ true) (eqb-true x c t) a))
-      | inr t ↦
-          (let gone : has (sift o c x xs) c ≡ false = has-sift o c c x xs (q .1) t ∙ or-from (eqb x c) (has xs c && not (eqb c c)) t (and-right (has xs c) (not (eqb c c)) (not-from-true _ (eqb-self c))) in
-           rw t (and-from _ _ (not-from-false _ gone) (apart-sift o c x xs a t)))
+        | inl t ↦ (rw t (subst (λ (z : ℕ). apart (z ∷ xs) ≡ true) (eqb-true x c t) a))
+        | inr t ↦
+            (let gone : has (sift o c x xs) c ≡ false = has-sift o c c x xs (q .1) t ∙ or-from (eqb x c) (has xs c && not (eqb c c)) t (and-right (has xs c) (not (eqb c c)) (not-from-true _ (eqb-self c))) in
+            rw t (and-from _ _ (not-from-false _ gone) (apart-sift o c x xs a t)))
       ]
 
   pub low-restacked : (st : List ℕ) → c < codes → low st ≡ true → low (restacked o c st) ≡ true
   low-restacked [] h l = and-from _ _ (lt-ltb c codes h) refl
   low-restacked (x ∷ xs) h l =
       elim (cases-bool (eqb x c)) [
-        inl t ↦ (rw t (and-from _ _ (lt-ltb c codes h) (and-parts (ltb x codes) (low xs) l .1)))
-      | inr t ↦ (rw t (and-from _ _ (lt-ltb c codes h) (low-sift o c x xs l)))
+        | inl t ↦ (rw t (and-from _ _ (lt-ltb c codes h) (and-parts (ltb x codes) (low xs) l .1)))
+        | inr t ↦ (rw t (and-from _ _ (lt-ltb c codes h) (low-sift o c x xs l)))
       ]

@@ -42,14 +42,14 @@ loop-i-again g c =
     let T : List ℕ → ℕ → Type 0 = λ s k. (length s ≡ 64) × (take (i + 1) s ++ sift o p k (drop (i + 1) (take d s)) ≡ u) in
     let t = ne-eqb (getD cur i 0) p (c .if-entry-code .left) in
     elim (c .if-is-behind .came) [
-      then-is-behind w ↦
-        (let a : o (c .loop-i .carried) (getD cur i 0) ≡ true = sym (c .is-behind .ensures) ∙ w .if-is-behind .taken in
-         let r : T (set cur i (c .loop-i .carried)) (getD cur i 0) = (length-set cur i (c .loop-i .carried) ∙ c .loop-i .inv .0, onto o p cur (c .loop-i .inv .0) d (c .pre) (c .loop-i .carried) i u (c .loop-i .inv .1) (c .loop-i-test .taken) t a) in
-         subst (λ (k : ℕ). T (c .if-is-behind .stack) k) (sym (w .carried-is)) (subst (λ (s : List ℕ). T s (getD cur i 0)) (sym (w .stack-is)) r))
-    | else-is-behind w ↦
-        (let a : o (c .loop-i .carried) (getD cur i 0) ≡ false = sym (c .is-behind .ensures) ∙ w .if-is-behind .left in
-         let r : T cur (c .loop-i .carried) = (c .loop-i .inv .0, stays o p cur (c .loop-i .inv .0) d (c .pre) (c .loop-i .carried) i u (c .loop-i .inv .1) (c .loop-i-test .taken) t a) in
-         subst (λ (k : ℕ). T (c .if-is-behind .stack) k) (sym (w .carried-is)) (subst (λ (s : List ℕ). T s (c .loop-i .carried)) (sym (w .stack-is)) r))
+      | then-is-behind w ↦
+          (let a : o (c .loop-i .carried) (getD cur i 0) ≡ true = sym (c .is-behind .ensures) ∙ w .if-is-behind .taken in
+          let r : T (set cur i (c .loop-i .carried)) (getD cur i 0) = (length-set cur i (c .loop-i .carried) ∙ c .loop-i .inv .0, onto o p cur (c .loop-i .inv .0) d (c .pre) (c .loop-i .carried) i u (c .loop-i .inv .1) (c .loop-i-test .taken) t a) in
+          subst (λ (k : ℕ). T (c .if-is-behind .stack) k) (sym (w .carried-is)) (subst (λ (s : List ℕ). T s (getD cur i 0)) (sym (w .stack-is)) r))
+      | else-is-behind w ↦
+          (let a : o (c .loop-i .carried) (getD cur i 0) ≡ false = sym (c .is-behind .ensures) ∙ w .if-is-behind .left in
+          let r : T cur (c .loop-i .carried) = (c .loop-i .inv .0, stays o p cur (c .loop-i .inv .0) d (c .pre) (c .loop-i .carried) i u (c .loop-i .inv .1) (c .loop-i-test .taken) t a) in
+          subst (λ (k : ℕ). T (c .if-is-behind .stack) k) (sym (w .carried-is)) (subst (λ (s : List ℕ). T s (c .loop-i .carried)) (sym (w .stack-is)) r))
     ]
 
 pub returns-then-depth-lt64 : need.returns-then-depth-lt64

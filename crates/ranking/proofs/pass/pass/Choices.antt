@@ -1,0 +1,22 @@
+use mathlib.Core.Path.{_≡_}
+use mathlib.Core.Bool.{true}
+use Prim.Native.Nat.{ℕ, _<_, _≤_}
+use lib.ListN.{length, take, drop, getD}
+use Rattle.paging.specs.Pages.{nothing}
+use Rattle.paging.specs.Rankings.{told-all, tellings}
+use Rattle.ranking.proofs.Lists.{apart, low}
+use Rattle.ranking.proofs.Passes.{Tracked}
+use Rattle.ranking.proofs.pass.pass.Given as given
+
+abbrev pub Inv-loop-i : given.InvT-loop-i
+Inv-loop-i g l =
+    let r = g .R·Ranking .order (l .ranking) in
+    let r₀ = g .R·Ranking .order (l .entry .ranking) in
+    let st = take (l .depth) (l .stack) in
+    (length (l .row) ≡ 64) ×
+    (l .depth ≤ 64) ×
+    (apart st ≡ true) ×
+    (low st ≡ true) ×
+    ((f : ℕ) → f < 64 → getD (l .row) f 0 ≤ l .i) ×
+    ((f : ℕ) → f < 64 → Tracked r₀ r nothing (l .string) st (l .i) (getD (l .row) f 0) f) ×
+    (told-all r (tellings (l .i) (drop (l .i) (l .string))) ≡ told-all r₀ (tellings 0 (l .string)))
