@@ -1,18 +1,21 @@
 -- What the calls of a trial answer, of its string. Assumes nothing.
 use mathlib.Core.Bool.{cond}
-use mathlib.Core.List.{List, []}
+use mathlib.Core.List.{List, [], _++_}
 use Prim.Native.Nat.{ℕ}
-use lib.Dec.{eqb}
+use lib.Dec.{eqb, leb}
+use lib.ListN.{length, drop}
 use Rattle.std.specs.declared.result.Result.{Result}
 use Rattle.std.specs.declared.result.Result.the-variants.{Ok, Err}
 use Rattle.paging.specs.declared.policy.Policy.{Policy}
 use Rattle.paging.specs.declared.policy.Policy.the-variants.{Lru, Min, Dpmin, Fifo}
 use Rattle.paging.specs.declared.refusal.Refusal.{Refusal}
-use Rattle.paging.specs.declared.refusal.Refusal.the-variants.{UnknownLetter, BadFrameCount, PagerHoldsPages}
+use Rattle.paging.specs.declared.refusal.Refusal.the-variants.{UnknownLetter, BadFrameCount, PagerHoldsPages, OutputTooShort}
 use Rattle.paging.specs.Frames.{is-frames}
 use Rattle.paging.specs.Pages.{size}
-use Rattle.paging.specs.Models.{PagerModel, instants-on, pulls-on}
+use Rattle.paging.specs.Models.{PagerModel, after, instants-on, pulls-on}
+use Rattle.paging.specs.Rankings.{RankingModel, told-all, tellings}
 use Rattle.paging.specs.Policies.{instants, pulls-of}
+use Rattle.ranking.specs.Stack.{pass-row}
 
 -- the policy of a letter: L, M, D or F
 abbrev pub policy-of : ℕ → Result Policy Refusal
@@ -35,3 +38,23 @@ figures-answer l f s = by-policy l f (λ p. Ok (instants p f s, pulls-of p f s))
 -- run: the fault instants and the pulls of a pager that holds nothing
 abbrev pub run-answer : PagerModel → List ℕ → Result (ℕ × ℕ) Refusal
 run-answer b s = cond (eqb (size (b [])) 0) (Ok (instants-on b s, pulls-on b s)) (Err PagerHoldsPages)
+
+-- the pager afterwards: served the whole string, or as it was
+abbrev pub run-leaves : PagerModel → List ℕ → PagerModel
+run-leaves b s = cond (eqb (size (b [])) 0) (after b s (length s)) b
+
+-- what is written into provided memory: the words, with the rest as it was, or nothing where they do not fit
+abbrev pub written : List ℕ → List ℕ → List ℕ
+written words out = cond (leb (length words) (length out)) (words ++ drop (length words) out) out
+
+-- the answer of a call that writes: how many words there are, if they fit
+abbrev pub write-answer : ℕ → List ℕ → Result ℕ Refusal
+write-answer n out = cond (leb n (length out)) (Ok n) (Err OutputTooShort)
+
+-- the ranking after a pass: told the whole string, or as it was where the row does not fit
+abbrev pub pass-leaves : RankingModel → List ℕ → List ℕ → RankingModel
+pass-leaves r s out = cond (leb 64 (length out)) (told-all r (tellings 0 s)) r
+
+-- the memory after a pass: the row of 64 numbers, with the rest as it was, or nothing where it does not fit
+abbrev pub pass-writes : RankingModel → List ℕ → List ℕ → List ℕ
+pass-writes r s out = cond (leb 64 (length out)) (pass-row r s ++ drop 64 out) out
