@@ -38,7 +38,7 @@ latest-at s (suc t) c j e = go (cases-eq (getD s t 0) c) (latest-at s t c j)
     go (inl q) _ = let b = eq-eqb (getD s t 0) c q in let k : t ≡ j = omega (arith, rw b at (latest-more s t c)) in rw (← k) q
     go (inr n) r = let b = ne-eqb (getD s t 0) c n in r (sym (rw b at (latest-more s t c)) ∙ e)
 
-has-append : (xs ys : List ℕ) (c : ℕ) → has (xs ++ ys) c ≡ (has xs c || has ys c)
+pub has-append : (xs ys : List ℕ) (c : ℕ) → has (xs ++ ys) c ≡ (has xs c || has ys c)
 has-append [] ys c = refl
 has-append (x ∷ xs) ys c = rw (has-append xs ys c) (assoc (eqb x c) (has xs c) (has ys c))
   where

@@ -8,6 +8,7 @@ use Rattle.std.specs.declared.result.Result.{Result}
 use Rattle.std.specs.declared.result.Result.the-variants.{Ok, Err}
 use Rattle.paging.specs.declared.refusal.Refusal.{Refusal}
 use Rattle.paging.specs.declared.refusal.Refusal.the-variants.{StringFull, StringTooShort}
+use Rattle.paging.specs.Pages.{size, has}
 use Rattle.evaluator.specs.declared.Trial.{Trial}
 
 abbrev pub string : Trial → List ℕ
@@ -26,3 +27,7 @@ take-string s k = cond (leb k (length s)) (take (length s - k) s) s
 
 abbrev pub take-answer : List ℕ → ℕ → Result ℕ Refusal
 take-answer s k = cond (leb k (length s)) (Ok (length s - k)) (Err StringTooShort)
+
+-- how many different pages a string has
+abbrev pub page-count : List ℕ → ℕ
+page-count s = size (has s)

@@ -1,7 +1,6 @@
 //! The policies' letters.
 ghost use Rattle.evaluator.specs.Answers.{policy-of};
 ghost use mathlib.Core.Path.{_≡_};
-
 use paging::policy::Policy;
 use paging::refusal::Refusal;
 

@@ -2,6 +2,7 @@
 ghost use Prim.Native.Nat.{_≤_};
 
 pub mod letters;
+pub mod pages;
 pub mod runs;
 pub mod string;
 pub mod working;

@@ -2,10 +2,9 @@
 ghost use Rattle.evaluator.specs.Answers.{pass-leaves, pass-writes, run-answer, run-leaves, write-answer};
 ghost use Rattle.evaluator.specs.Strings.{string};
 ghost use mathlib.Core.Path.{_≡_};
-
 use crate::Trial;
-use paging::refusal::Refusal;
 use pager::Pager;
+use paging::refusal::Refusal;
 use ranking::Ranking;
 
 impl Trial {

@@ -2,7 +2,6 @@
 pub mod fifo;
 pub mod runs;
 
-
 ghost use Prim.Native.Nat.{ℕ};
 ghost use Rattle.paging.specs.Models.{Keeps, PagerModel, served};
 ghost use Rattle.paging.specs.Pages.{size};

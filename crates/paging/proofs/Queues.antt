@@ -138,11 +138,11 @@ module _ (f : ℕ) (some : 1 ≤ f) (most : f ≤ 64) where
       go (inl h) = rw h (record { first = h; within = omega (arith, size-has q); only = λ _ c _ e. e })
       go (inr h) =
           rw h (
-            record {
-              first = ap (λ (N : Pages). N x) (has-push (cond (leb f (length q)) (drop 1 q) q) x) ∙ here (has (cond (leb f (length q)) (drop 1 q) q) x) (eq-eqb x x refl);
-              within = omega (arith, size-has (fifo-in f x q), fifo-in-few f x q some few);
-              only = λ yes c _ e. absurd (both-ways (has q x) h yes);
-            })
+          record {
+            first = ap (λ (N : Pages). N x) (has-push (cond (leb f (length q)) (drop 1 q) q) x) ∙ here (has (cond (leb f (length q)) (drop 1 q) q) x) (eq-eqb x x refl);
+            within = omega (arith, size-has (fifo-in f x q), fifo-in-few f x q some few);
+            only = λ yes c _ e. absurd (both-ways (has q x) h yes);
+          })
 
   pub fifo-keeps : (q : List ℕ) → length q ≤ f → Keeps f (fifo f q)
   fifo-keeps q few =

@@ -18,10 +18,10 @@ returns g c =
     let s = string (c .args .self .now) in
     let t : leb 64 (length out) ≡ true = le-leb 64 (length out) (c .if-out-lt64 .left) in
     let row : c .copy-from-slice .last .self ≡ pass-row r s =
-        c .copy-from-slice .ensures .after ∙ c .pass-row .ensures .faults ∙ ap (pass-row r) (c .codes .ensures .value) in
+    c .copy-from-slice .ensures .after ∙ c .pass-row .ensures .faults ∙ ap (pass-row r) (c .codes .ensures .value) in
     record {
       answer = rw t;
       row = ap (λ (xs : List ℕ). xs ++ drop 64 out) row ∙ sym (cond-true (leb 64 (length out)) (pass-row r s ++ drop 64 out) out t);
       ranking = c .pass-row .ensures .told ∙ ap (λ (xs : List ℕ). told-all r (tellings 0 xs)) (c .codes .ensures .value)
-        ∙ sym (cond-true (leb 64 (length out)) (told-all r (tellings 0 s)) r t);
+          ∙ sym (cond-true (leb 64 (length out)) (told-all r (tellings 0 s)) r t);
     }

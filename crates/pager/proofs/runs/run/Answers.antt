@@ -17,8 +17,7 @@ use Rattle.pager.proofs.runs.run.Needs.{then-not-holds, else-not-holds}
 pub loop-place-holds : need.loop-place-holds
 loop-place-holds g c =
     let s = c .args .string .now in
-    let b = g .P·Pager .holding (c .args .pager .now) in
-    (
+    let b = g .P·Pager .holding (c .args .pager .now) in (
       refl,
       sym (total-none (λ t. bit (not (held-on b s t (getD s t 0))))),
       sym (total-none (λ t. pulled (held-on b s t) (held-on b s (suc t)))),
@@ -44,14 +43,13 @@ loop-place-again g c =
     let served = c .serve-pulls .ensures in
     let few = pulled-most (m []) (m′ []) in
     let fault : c .if-not-holds .faults ≡ c .loop-place .faults + bit (not (m [] (getD s t 0))) =
-        elim (c .if-not-holds .came) [
-          then-not-holds w ↦ rw (← c .holds .ensures, w .if-not-holds .taken) (w .faults-is)
-        | else-not-holds w ↦ rw (← c .holds .ensures, w .if-not-holds .left) (omega (arith, w .faults-is))
-        ] in
+    elim (c .if-not-holds .came) [
+      | then-not-holds w ↦ rw (← c .holds .ensures, w .if-not-holds .taken) (w .faults-is)
+      | else-not-holds w ↦ rw (← c .holds .ensures, w .if-not-holds .left) (omega (arith, w .faults-is))
+    ] in
     let one = bit-most (not (m [] (getD s t 0))) in
     let e₁ = faults-step b m m′ s t (c .loop-place-test .taken) (inv .0) (served .moves) in
-    let e₂ = pulls-step b m m′ s t (c .loop-place-test .taken) (inv .0) (served .moves) in
-    (
+    let e₂ = pulls-step b m m′ s t (c .loop-place-test .taken) (inv .0) (served .moves) in (
       after-step b m m′ s t (c .loop-place-test .taken) (inv .0) (served .moves),
       omega arith,
       omega arith,

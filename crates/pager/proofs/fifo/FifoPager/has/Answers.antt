@@ -31,7 +31,7 @@ module _ (s : FifoPager) (code : ℕ) where
       let len : length (s .frames) ≡ 64 = sym (length-map (s .frames) code-of) ∙ s .wide in
       let long : length held ≡ s .used = length-take _ (codes-of (s .frames)) ∙ omega (arith, s .wide, s .most, s .within) in
       let e : getD held i 0 ≡ getD (s .frames) i (record { code = 0 }) .code =
-          getD-take (s .used) (codes-of (s .frames)) i 0 h ∙ getD-map code-of (s .frames) i (record { code = 0 }) 0 (omega (arith, s .most, s .within)) in
+      getD-take (s .used) (codes-of (s .frames)) i 0 h ∙ getD-map code-of (s .frames) i (record { code = 0 }) 0 (omega (arith, s .most, s .within)) in
       at-drop-more find held i 0 (omega arith) ∙ ap (λ (x : ℕ). eqb x code || has (drop (i + 1) held) code) e
 
 pub returns-then-self-i : need.returns-then-self-i

@@ -26,13 +26,25 @@ ghost-self c =
     let h = c .onward-self .result in
     let e = stored (s .frames) (s .hand) (c .load .last .self) x (c .load .ensures) in
     let q : queue n h (codes-of (set (s .frames) (s .hand) (c .load .last .self))) ≡ fifo-in (s .room) x (queue-of s) =
-        ap (queue n h) e ∙ queue-pull (codes-of (s .frames)) (s .room) (s .used) (s .hand) (omega (arith, s .wide, s .most)) (s .within) (s .at) (s .filling) x n h (c .one-more-self .ensures) (c .onward-self .ensures) in
-    let m = hand-on (codes-of (s .frames)) (s .room) (s .used) (s .hand) (omega (arith, s .wide, s .most)) (s .within) (s .at) (s .filling) x n h (c .one-more-self .ensures) (c .onward-self .ensures) in
-    (
+    ap (queue n h) e ∙ queue-pull (codes-of (s .frames)) (s .room) (s .used) (s .hand) (omega (arith, s .wide, s .most)) (s .within) (s .at) (s .filling) x n h (c .one-more-self .ensures) (c .onward-self .ensures) in
+    let m = hand-on (codes-of (s .frames)) (s .room) (s .used) (s .hand) (omega (arith, s .wide, s .most)) (s .within) (s .at) (s .filling) x n h (c .one-more-self .ensures) (c .onward-self .ensures) in (
       s .most,
-      (m .0, (m .1, (m .2, (ap length e ∙ simp length-set (s .wide), (
-        ap once q ∙ once-in (s .room) x (queue-of s) (s .apart) (c .pre),
-        (ap coded q ∙ coded-in (s .room) x (queue-of s) (s .low) (omega arith), tt))))))
+      (
+        m .0,
+        (
+          m .1,
+          (
+            m .2,
+            (
+              ap length e ∙ simp length-set (s .wide),
+              (
+                ap once q ∙ once-in (s .room) x (queue-of s) (s .apart) (c .pre),
+                (ap coded q ∙ coded-in (s .room) x (queue-of s) (s .low) (omega arith), tt),
+              ),
+            ),
+          ),
+        ),
+      ),
     )
 
 pub returns : need.returns

@@ -11,5 +11,5 @@ pub returns : need.returns
 returns c =
     let s = c .args .self .now in
     sym (
-      size-once (queue-of s) (s .apart) (s .low) ∙
-      queue-long (codes-of (s .frames)) (s .room) (s .used) (s .hand) (omega (arith, s .wide, s .most)) (s .within) (s .at) (s .filling))
+    size-once (queue-of s) (s .apart) (s .low) ∙
+    queue-long (codes-of (s .frames)) (s .room) (s .used) (s .hand) (omega (arith, s .wide, s .most)) (s .within) (s .at) (s .filling))
