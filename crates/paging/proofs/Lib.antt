@@ -10,3 +10,7 @@ pub mod Near
 pub mod FewestPulls
 pub mod Foremost
 pub mod FewestFaults
+pub mod OwnRuns
+pub mod Told
+pub mod MinRun
+pub mod LruRun

@@ -57,3 +57,29 @@ next-first (x ∷ xs) c (suc j) l e = go (cases-eq x c) (next-first xs c j)
     go : (x ≡ c) ⊎ (x ≡ c → ⊥) → (j < next xs c → getD xs j 0 ≡ c → ⊥) → ⊥
     go (inl q) _ = omega (arith, next-at x xs c q)
     go (inr ne) r = r (omega (arith, next-other x xs c ne)) e
+
+pub latest-le : (s : List ℕ) (t c : ℕ) → latest s t c ≤ t
+unfolding latest
+latest-le s zero c = omega arith
+latest-le s (suc t) c = let r = latest-le s t c in grind arith
+
+pub latest-at : (s : List ℕ) (t c : ℕ) → getD s t 0 ≡ c → latest s (suc t) c ≡ suc t
+unfolding latest
+latest-at s t c e = rw (eq-eqb (getD s t 0) c e)
+
+pub latest-other : (s : List ℕ) (t c : ℕ) → (getD s t 0 ≡ c → ⊥) → latest s (suc t) c ≡ latest s t c
+unfolding latest
+latest-other s t c ne = rw (ne-eqb (getD s t 0) c ne)
+
+-- two pages with one latest reference are one page
+pub latest-same : (s : List ℕ) (t c d : ℕ) → 1 ≤ latest s t c → latest s t c ≡ latest s t d → c ≡ d
+unfolding latest
+latest-same s zero c d some e = absurd (omega arith)
+latest-same s (suc t) c d some e = go (cases-eq (getD s t 0) c) (cases-eq (getD s t 0) d) (latest-same s t c d)
+  where
+    go : (getD s t 0 ≡ c) ⊎ (getD s t 0 ≡ c → ⊥) → (getD s t 0 ≡ d) ⊎ (getD s t 0 ≡ d → ⊥) →
+        (1 ≤ latest s t c → latest s t c ≡ latest s t d → c ≡ d) → c ≡ d
+    go (inl p) (inl q) _ = omega arith
+    go (inl p) (inr nq) _ = absurd (omega (arith, latest-at s t c p, latest-other s t d nq, latest-le s t d))
+    go (inr np) (inl q) _ = absurd (omega (arith, latest-other s t c np, latest-at s t d q, latest-le s t c))
+    go (inr np) (inr nq) ih = ih (omega (arith, latest-other s t c np)) (omega (arith, latest-other s t c np, latest-other s t d nq))

@@ -2,12 +2,14 @@
 use mathlib.Core.Path.{_≡_}
 use mathlib.Core.Bool.{false}
 use mathlib.Core.List.{List, []}
-use Prim.Native.Nat.{ℕ, _+_, _≤_, _<_}
-use lib.ListN.{length, getD}
+use Prim.Native.Nat.{ℕ, suc, _+_, _≤_, _<_}
+use lib.ListN.{length, getD, take}
 use Rattle.paging.specs.Pages.{codes, Pages, size}
 use Rattle.paging.specs.Schedules.{Coded, Holding, Schedule-to, Schedule, Prepages-to, Prepages, pulls, releases, faults}
 use Rattle.paging.specs.Models.{PagerModel, Keeps, held-on}
-use Rattle.paging.specs.Policies.{dpmin, Demand, Furthest}
+use Rattle.paging.specs.Rankings.{RankingModel, Orders, told-all, tellings, own-from, own}
+use Rattle.paging.specs.declared.policy.Policy.the-variants.{Lru, Min}
+use Rattle.paging.specs.Policies.{dpmin, schedule, Demand, Furthest, Oldest, Behind}
 
 -- a pager that keeps its laws makes a schedule, and pulls only at its fault instants
 abbrev pub Pagers-schedule : Type 0
@@ -47,3 +49,25 @@ Dpmin-faults-latest =
 -- DPMIN keeps the laws of a pager
 abbrev pub Dpmin-keeps : Type 0
 Dpmin-keeps = (f : ℕ) (B : Pages) → 1 ≤ f → f ≤ 64 → size B ≤ f → Keeps f (dpmin f B)
+
+-- and so does the own run of every ranking
+abbrev pub Own-keeps : Type 0
+Own-keeps = (r : RankingModel) (f : ℕ) (B : Pages) → 1 ≤ f → f ≤ 64 → size B ≤ f → Keeps f (own-from r f B)
+
+-- the own run of every ranking pulls at faults only, and releases the held page that is behind all others once the ranking is told
+abbrev pub Own-releases-hindmost : Type 0
+Own-releases-hindmost =
+    (r : RankingModel) (f : ℕ) (s : List ℕ) → Orders r → 1 ≤ f →
+    Demand (Behind (λ t. told-all r (take (suc t) (tellings 0 s)) []) (held-on (own r f) s)) f s (held-on (own r f) s)
+
+-- MIN is such a run, and the page that it releases is the one referenced furthest
+abbrev pub Min-releases-furthest : Type 0
+Min-releases-furthest =
+    (f : ℕ) (s : List ℕ) → Coded s → length s ≤ 4096 → 1 ≤ f →
+    Demand (Furthest s (schedule Min f s)) f s (schedule Min f s)
+
+-- LRU is such a run, and the page that it releases is the one whose latest reference is oldest
+abbrev pub Lru-releases-oldest : Type 0
+Lru-releases-oldest =
+    (f : ℕ) (s : List ℕ) → Coded s → length s ≤ 4096 → 1 ≤ f →
+    Demand (Oldest s (schedule Lru f s)) f s (schedule Lru f s)

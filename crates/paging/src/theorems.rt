@@ -1,10 +1,11 @@
 //! What is proved of all schedules, pagers, rankings and policies, each as the contract of a function.
-ghost use Rattle.paging.specs.Theorems.{Dpmin-faults-latest, Dpmin-faults-least, Dpmin-keeps, Min-pulls-least, Pagers-schedule, Pulls-balance};
+ghost use Rattle.paging.specs.Theorems.{Dpmin-faults-latest, Dpmin-faults-least, Dpmin-keeps, Lru-releases-oldest, Min-pulls-least, Min-releases-furthest, Own-keeps, Own-releases-hindmost, Pagers-schedule, Pulls-balance};
 
-/// Pagers make schedules; and DPMIN is a pager.
+/// Pagers make schedules; DPMIN is a pager, and so is the own run of every ranking.
 pub fn pagers_stand() -> u8
     ensures schedule { λ _. ⌜ Pagers-schedule ⌝ }
     ensures dpmin { λ _. ⌜ Dpmin-keeps ⌝ }
+    ensures own { λ _. ⌜ Own-keeps ⌝ }
 {
     0
 }
@@ -15,6 +16,15 @@ pub fn schedules_stand() -> u8
     ensures pulls { λ _. ⌜ Min-pulls-least ⌝ }
     ensures faults { λ _. ⌜ Dpmin-faults-least ⌝ }
     ensures latest { λ _. ⌜ Dpmin-faults-latest ⌝ }
+{
+    0
+}
+
+/// Which page goes: in every ranking's own run, under MIN and under LRU.
+pub fn releases_stand() -> u8
+    ensures own { λ _. ⌜ Own-releases-hindmost ⌝ }
+    ensures min { λ _. ⌜ Min-releases-furthest ⌝ }
+    ensures lru { λ _. ⌜ Lru-releases-oldest ⌝ }
 {
     0
 }
