@@ -14,3 +14,5 @@ pub mod OwnRuns
 pub mod Told
 pub mod MinRun
 pub mod LruRun
+pub mod Demands
+pub mod Least

@@ -4,12 +4,12 @@ use mathlib.Core.Bool.{false}
 use mathlib.Core.List.{List, []}
 use Prim.Native.Nat.{ℕ, suc, _+_, _≤_, _<_}
 use lib.ListN.{length, getD, take}
-use Rattle.paging.specs.Pages.{codes, Pages, size}
+use Rattle.paging.specs.Pages.{codes, Pages, nothing, size}
 use Rattle.paging.specs.Schedules.{Coded, Holding, Schedule-to, Schedule, Prepages-to, Prepages, pulls, releases, faults}
-use Rattle.paging.specs.Models.{PagerModel, Keeps, held-on}
-use Rattle.paging.specs.Rankings.{RankingModel, Orders, told-all, tellings, own-from, own}
-use Rattle.paging.specs.declared.policy.Policy.the-variants.{Lru, Min}
-use Rattle.paging.specs.Policies.{dpmin, schedule, Demand, Furthest, Oldest, Behind}
+use Rattle.paging.specs.Models.{PagerModel, Keeps, held-on, instants-on, pulls-on}
+use Rattle.paging.specs.Rankings.{RankingModel, Orders, told-all, tellings, own-from, own, own-faults}
+use Rattle.paging.specs.declared.policy.Policy.the-variants.{Lru, Min, Dpmin}
+use Rattle.paging.specs.Policies.{dpmin, schedule, instants, pulls-of, Demand, Furthest, Oldest, Behind}
 
 -- a pager that keeps its laws makes a schedule, and pulls only at its fault instants
 abbrev pub Pagers-schedule : Type 0
@@ -71,3 +71,35 @@ abbrev pub Lru-releases-oldest : Type 0
 Lru-releases-oldest =
     (f : ℕ) (s : List ℕ) → Coded s → length s ≤ 4096 → 1 ≤ f →
     Demand (Oldest s (schedule Lru f s)) f s (schedule Lru f s)
+
+-- the own run of every ranking, and so LRU and MIN, pulls as many pages as it has fault instants
+abbrev pub Own-pulls-at-faults : Type 0
+Own-pulls-at-faults = (r : RankingModel) (f : ℕ) (s : List ℕ) → Coded s → 1 ≤ f → pulls-on (own r f) s ≡ own-faults r f s
+
+-- the pager holds no page yet
+abbrev pub Starts-empty : PagerModel → Type 0
+Starts-empty b = (c : ℕ) → c < codes → b [] c ≡ false
+
+-- in f frames and from nothing held, no schedule of the string s pulls less than MIN, and none that pulls only at its fault instants
+-- has fewer of them than DPMIN; so no pager does better, whatever its rule
+pub record Least (f : ℕ) (s : List ℕ) : Type 0 where
+  -- MIN's own schedule is a schedule
+  pub own-min : Schedule f nothing s (schedule Min f s)
+  -- every schedule has at least MIN's pulls
+  pub fewest-pulls : (H : Holding) → Schedule f nothing s H → pulls-of Min f s ≤ pulls H (length s)
+  -- DPMIN's own schedule is a schedule, and pulls only at its fault instants
+  pub own-dpmin : Schedule f nothing s (schedule Dpmin f s) × Prepages s (schedule Dpmin f s)
+  -- every schedule that pulls only at its fault instants has at least DPMIN's
+  pub fewest-instants : (H : Holding) → Schedule f nothing s H → Prepages s H → instants Dpmin f s ≤ faults s H (length s)
+  -- every pager that keeps its laws has at least DPMIN's fault instants
+  pub pager-instants : (b : PagerModel) → Keeps f b → Starts-empty b → instants Dpmin f s ≤ instants-on b s
+  -- and at least MIN's pulls
+  pub pager-pulls : (b : PagerModel) → Keeps f b → Starts-empty b → pulls-of Min f s ≤ pulls-on b s
+
+-- MIN and DPMIN are least, on every string of at most 4,096 references and at every frame count from 1 to 64
+abbrev pub Policies-least : Type 0
+Policies-least = (f : ℕ) (s : List ℕ) → 1 ≤ f → f ≤ 64 → Coded s → length s ≤ 4096 → Least f s
+
+-- with more frames DPMIN never faults more often
+abbrev pub Dpmin-more-frames : Type 0
+Dpmin-more-frames = (f g : ℕ) (s : List ℕ) → 1 ≤ f → f ≤ 64 → f ≤ g → Coded s → instants Dpmin g s ≤ instants Dpmin f s

@@ -1,5 +1,5 @@
 //! What is proved of all schedules, pagers, rankings and policies, each as the contract of a function.
-ghost use Rattle.paging.specs.Theorems.{Dpmin-faults-latest, Dpmin-faults-least, Dpmin-keeps, Lru-releases-oldest, Min-pulls-least, Min-releases-furthest, Own-keeps, Own-releases-hindmost, Pagers-schedule, Pulls-balance};
+ghost use Rattle.paging.specs.Theorems.{Dpmin-faults-latest, Dpmin-faults-least, Dpmin-keeps, Dpmin-more-frames, Lru-releases-oldest, Min-pulls-least, Min-releases-furthest, Own-keeps, Own-pulls-at-faults, Own-releases-hindmost, Pagers-schedule, Policies-least, Pulls-balance};
 
 /// Pagers make schedules; DPMIN is a pager, and so is the own run of every ranking.
 pub fn pagers_stand() -> u8
@@ -20,11 +20,20 @@ pub fn schedules_stand() -> u8
     0
 }
 
-/// Which page goes: in every ranking's own run, under MIN and under LRU.
+/// Which page goes in every ranking's own run, under MIN and under LRU; and that such a run pulls one page at each fault.
 pub fn releases_stand() -> u8
     ensures own { λ _. ⌜ Own-releases-hindmost ⌝ }
     ensures min { λ _. ⌜ Min-releases-furthest ⌝ }
     ensures lru { λ _. ⌜ Lru-releases-oldest ⌝ }
+    ensures pulls { λ _. ⌜ Own-pulls-at-faults ⌝ }
+{
+    0
+}
+
+/// At each frame count from 1 to 64 no schedule pulls less than MIN, and no pager faults less than DPMIN.
+pub fn policies_stand() -> u8
+    ensures least { λ _. ⌜ Policies-least ⌝ }
+    ensures frames { λ _. ⌜ Dpmin-more-frames ⌝ }
 {
     0
 }
