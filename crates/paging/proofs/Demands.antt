@@ -1,31 +1,22 @@
 -- Schedules that pull one page at a time, at faults only. Assumes nothing.
-use mathlib.Core.Path.{_≡_, refl, ap, sym, subst, _∙_}
-use mathlib.Core.Bool.{Bool, true, false, not, _&&_, _||_}
+use mathlib.Core.Path.{_≡_, ap, sym, _∙_}
+use mathlib.Core.Bool.{Bool, true, false, not}
 use mathlib.Core.List.{List}
 use mathlib.Core.Logic.{_⊎_, inl, inr}
-use Prim.Native.Nat.{ℕ, zero, suc, _+_, _≤_, _<_}
+use Prim.Native.Nat.{ℕ, zero, suc, _≤_, _<_}
 use native.Mathlib.Omega.{arith}
 use lib.Dec.{eqb}
 use lib.ListN.{length, getD}
-use Rattle.std.proofs.shelf.Tests.{eq-eqb, cases-bool, cases-lt, and-parts}
-use Rattle.paging.specs.Pages.{bit, total, codes, Pages, nothing, size, with-page, without}
+use Rattle.std.proofs.shelf.Tests.{cases-bool, cases-lt, and-parts}
+use Rattle.paging.specs.Pages.{bit, nothing, size, without}
 use Rattle.paging.specs.Schedules.{Coded, Holding, pulled, pulls, faults}
 use Rattle.paging.specs.Models.{held-on}
-use Rattle.paging.specs.Rankings.{RankingModel, own}
-use Rattle.paging.specs.Policies.{Replaces, Demand}
+use Rattle.paging.specs.Rankings.{own}
+use Rattle.paging.specs.Policies.{Demand}
 use Rattle.paging.specs.Theorems.{Own-pulls-at-faults}
-use Rattle.paging.proofs.Sums.{total-none, total-suc, member}
-use Rattle.paging.proofs.Sizes.{none-pulled, one-pulled}
+use Rattle.paging.proofs.Sums.{total-none, total-suc}
+use Rattle.paging.proofs.Sets.{none-pulled, one-pulled}
 use Rattle.paging.proofs.OwnRuns.{starting, order-at, own-admits, admits-demand}
-
--- x comes into what is left of a set that has no x
-pub comes-pulled : (x : ℕ) (M R : Pages) → x < codes → M x ≡ false → ((c : ℕ) → R c ≡ true → M c ≡ true) → pulled M (with-page x R) ≡ 1
-comes-pulled x M R l miss sub =
-    omega (
-      arith,
-      one-pulled x M R sub,
-      member codes x (λ c. with-page x R c && not (M c)) l (rw (eq-eqb x x refl, miss)),
-    )
 
 module _ (Goes : ℕ → ℕ → Type 0) (f : ℕ) (s : List ℕ) (H : Holding) (coded : Coded s) (d : Demand Goes f s H) where
   -- one place pulls one page at a fault, and none at a hit
@@ -38,11 +29,11 @@ module _ (Goes : ℕ → ℕ → Type 0) (f : ℕ) (s : List ℕ) (H : Holding) 
       go : (H t (getD s t 0) ≡ true) ⊎ (H t (getD s t 0) ≡ false) → (size (H t) < f) ⊎ (f ≤ size (H t)) →
           pulled (H t) (H (suc t)) ≡ bit (not (H t (getD s t 0)))
       go (inl m) _ = ap (pulled (H t)) (d .hit t l m) ∙ none-pulled (H t) ∙ sym (ap (λ (b : Bool). bit (not b)) m)
-      go (inr m) (inl few) = fault m (ap (pulled (H t)) (d .room t l m few) ∙ comes-pulled (getD s t 0) (H t) (H t) (coded t l) m (λ c e. e))
+      go (inr m) (inl few) = fault m (ap (pulled (H t)) (d .room t l m few) ∙ one-pulled (getD s t 0) (H t) (H t) (coded t l) m (λ c e. e))
       go (inr m) (inr many) =
           let r = d .full t l m many in
           fault m (ap (pulled (H t)) (r .then) ∙
-          comes-pulled (getD s t 0) (H t) (without (r .out) (H t)) (coded t l) m (λ c e. and-parts (not (eqb (r .out) c)) (H t c) e .1))
+          one-pulled (getD s t 0) (H t) (without (r .out) (H t)) (coded t l) m (λ c e. and-parts (not (eqb (r .out) c)) (H t c) e .1))
 
   pub demand-pulls : (p : ℕ) → p ≤ length s → pulls H p ≡ faults s H p
   demand-pulls zero l = total-none (λ t. pulled (H t) (H (suc t))) ∙ sym (total-none (λ t. bit (not (H t (getD s t 0)))))

@@ -1,21 +1,21 @@
 -- DPMIN faults least among the schedules that pull only at faults. Assumes nothing.
-use mathlib.Core.Path.{_≡_, refl, ap, sym, subst, _∙_}
-use mathlib.Core.Bool.{Bool, true, false, not, _&&_, _||_}
-use mathlib.Core.List.{List, [], _∷_}
+use mathlib.Core.Path.{_≡_, ap, sym, subst, _∙_}
+use mathlib.Core.Bool.{true, false, not, _&&_, _||_}
+use mathlib.Core.List.{List, _∷_}
 use mathlib.Core.Logic.{_⊎_, inl, inr}
 use Prim.Native.Nat.{ℕ, zero, suc, _+_, _≤_, _<_}
 use native.Mathlib.Omega.{arith}
-use lib.Dec.{eqb, leb, ltb}
+use lib.Dec.{eqb, ltb}
 use lib.ListN.{length, getD, drop}
 use lib.Seq.{drop-cons}
 use Rattle.std.proofs.shelf.Ways.{tells}
 use Rattle.std.proofs.shelf.Tests.{eq-eqb, ne-eqb, ltb-false, cases-eq, cases-bool, cases-lt, both-ways}
 use Rattle.paging.specs.Pages.{bit, total, codes, Pages, size}
-use Rattle.paging.specs.Schedules.{Coded, next, Holding, Schedule-to, Schedule, Prepages-to, Prepages, faults}
+use Rattle.paging.specs.Schedules.{Coded, next, Holding, Schedule-to, Prepages-to, faults}
 use Rattle.paging.specs.Models.{held-on}
 use Rattle.paging.specs.Policies.{pool, before, rank, foremost, dpmin-step, dpmin}
-use Rattle.paging.specs.Theorems.{Instant, Dpmin-faults-least, Dpmin-faults-latest}
-use Rattle.paging.proofs.Sums.{total-le, total-add, total-zero, total-none, total-suc, total-longer, only-one, member}
+use Rattle.paging.specs.Theorems.{Dpmin-faults-least, Dpmin-faults-latest}
+use Rattle.paging.proofs.Sums.{total-le, total-add, total-none, total-suc, total-longer, only-one, member}
 use Rattle.paging.proofs.Next.{next-here, next-other, next-same}
 use Rattle.paging.proofs.Foremost.{foremost-here, dpmin-hit, dpmin-fault, dpmin-more}
 

@@ -1,21 +1,21 @@
 -- MIN pulls least: up to every place, no schedule has pulled less. Assumes nothing.
-use mathlib.Core.Path.{_≡_, refl, ap, sym, _∙_}
-use mathlib.Core.Bool.{Bool, true, false, not, _&&_, _||_}
-use mathlib.Core.List.{List, [], _∷_}
+use mathlib.Core.Path.{_≡_, refl}
+use mathlib.Core.Bool.{true, false, not, _&&_}
+use mathlib.Core.List.{List, _∷_}
 use mathlib.Core.Logic.{_⊎_, inl, inr}
 use Prim.Native.Nat.{ℕ, zero, suc, _+_, _≤_, _<_}
 use native.Mathlib.Omega.{arith}
-use lib.Dec.{eqb, leb, ltb}
+use lib.Dec.{eqb, ltb}
 use lib.ListN.{length, getD, drop}
 use lib.Seq.{drop-cons}
 use Rattle.std.proofs.shelf.Ways.{tells}
 use Rattle.std.proofs.shelf.Tests.{eq-eqb, lt-ltb, le-ltb, cases-eq, cases-bool, cases-lt, and-parts, and-right}
-use Rattle.paging.specs.Pages.{bit, total, codes, Pages, size, with-page, without}
+use Rattle.paging.specs.Pages.{bit, codes, Pages, size, with-page, without}
 use Rattle.paging.specs.Schedules.{Coded, next, Holding, Schedule-to, pulled, pulls}
-use Rattle.paging.specs.Policies.{Replaces, Demand, Furthest}
+use Rattle.paging.specs.Policies.{Demand, Furthest}
 use Rattle.paging.specs.Theorems.{Min-pulls-least}
 use Rattle.paging.proofs.Sums.{total-le, total-zero, total-none, total-suc, member}
-use Rattle.paging.proofs.Sizes.{none-pulled, one-pulled}
+use Rattle.paging.proofs.Sets.{none-pulled, one-pulled}
 use Rattle.paging.proofs.Next.{next-here, next-other}
 use Rattle.paging.proofs.Near.{near, near-pulled, near-none, near-size, near-all, near-on, near-with, near-without}
 
@@ -67,7 +67,7 @@ module _ (f x : ℕ) (xs : List ℕ) (M H H′ : Pages) (a b : ℕ) (l : x < cod
       trails-on x xs (with-page x M) H′ (pulled M (with-page x M) + a) (pulled H H′ + b) l (rw (eq-eqb x x refl)) has
       (λ θ. omega (
         arith,
-        one-pulled x M M (λ c e. e),
+        one-pulled x M M l m (λ c e. e),
         near-pulled (next (x ∷ xs)) H H′ (suc θ),
         inv (suc θ),
         near-with (next (x ∷ xs)) x M (suc θ) l m (omega (arith, next-here x xs)),
@@ -77,8 +77,8 @@ module _ (f x : ℕ) (xs : List ℕ) (M H H′ : Pages) (a b : ℕ) (l : x < cod
     full-at : (θ : ℕ) → near (next (x ∷ xs)) H′ (suc θ) + (pulled M (with-page x (without z M)) + a) ≤ near (next (x ∷ xs)) (with-page x (without z M)) (suc θ) + (pulled H H′ + b)
     full-at θ = go (cases-lt (next (x ∷ xs) z) (suc θ))
       where
-        one : pulled M (with-page x (without z M)) ≤ 1
-        one = one-pulled x M (without z M) (λ c e. and-parts (not (eqb z c)) (M c) e .1)
+        one : pulled M (with-page x (without z M)) ≡ 1
+        one = one-pulled x M (without z M) l m (λ c e. and-parts (not (eqb z c)) (M c) e .1)
 
         more : near (next (x ∷ xs)) (without z M) (suc θ) + 1 ≤ near (next (x ∷ xs)) (with-page x (without z M)) (suc θ)
         more = near-with (next (x ∷ xs)) x (without z M) (suc θ) l (and-right (not (eqb z x)) (M x) m) (omega (arith, next-here x xs))

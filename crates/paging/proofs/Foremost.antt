@@ -1,24 +1,24 @@
 -- What DPMIN holds after a fault, and its laws as a pager. Assumes nothing.
 use mathlib.Core.Path.{_≡_, refl, ap, sym, subst, _∙_}
-use mathlib.Core.Bool.{Bool, true, false, not, _&&_, _||_, cond}
+use mathlib.Core.Bool.{true, false, _&&_}
 use mathlib.Core.List.{List, [], _∷_}
 use mathlib.Core.Logic.{_⊎_, inl, inr}
-use Prim.Native.Nat.{ℕ, zero, suc, _+_, _≤_, _<_}
+use Prim.Native.Nat.{ℕ, suc, _+_, _≤_, _<_}
 use native.Mathlib.Omega.{arith}
-use lib.Dec.{eqb, leb, ltb}
-use lib.ListN.{length, getD, drop}
+use lib.Dec.{eqb, ltb}
+use lib.ListN.{length, drop}
 use Rattle.std.proofs.shelf.Ways.{tells}
 use Rattle.std.proofs.shelf.Tests.{eq-eqb, ltb-true, cases-eq, cases-bool, cases-lt, and-parts, both-ways}
-use Rattle.paging.specs.Pages.{bit, total, codes, Pages, size}
+use Rattle.paging.specs.Pages.{bit, codes, Pages, size}
 use Rattle.paging.specs.Schedules.{next}
-use Rattle.paging.specs.Models.{Serve, held-on, stepping}
+use Rattle.paging.specs.Models.{Serve, held-on}
 use Rattle.paging.specs.Rankings.{hindmost, Order}
 use Rattle.paging.specs.Policies.{pool, before, rank, foremost, dpmin-step, itself, dpmin}
 use Rattle.paging.specs.Theorems.{Dpmin-keeps}
 use Rattle.paging.proofs.Sums.{total-le, total-add, total-zero, only-most}
 use Rattle.paging.proofs.Next.{next-here, next-other}
-use Rattle.paging.proofs.Hindmost.{hindmost-below, hindmost-held, hindmost-behind}
-use Rattle.paging.proofs.Models.{states, states-more, held-stepping, stepping-keeps}
+use Rattle.paging.proofs.Hindmost.{hindmost-held, hindmost-behind}
+use Rattle.paging.proofs.Models.{states-more, held-stepping, stepping-keeps}
 
 pub before-order : (k : ℕ → ℕ) → Order (before k)
 before-order k =

@@ -1,18 +1,17 @@
 -- MIN and DPMIN are least, for the figures of the policies. Assumes nothing.
-use mathlib.Core.Path.{_≡_, refl}
-use mathlib.Core.Bool.{Bool, true, false}
-use mathlib.Core.List.{List, []}
-use Prim.Native.Nat.{ℕ, zero, suc, _+_, _≤_, _<_}
+use mathlib.Core.Path.{refl}
+use mathlib.Core.List.{List}
+use Prim.Native.Nat.{ℕ, _≤_}
 use native.Mathlib.Omega.{arith}
 use lib.ListN.{length}
 use Rattle.paging.specs.declared.policy.Policy.the-variants.{Min, Dpmin}
-use Rattle.paging.specs.Pages.{codes, Pages, nothing, size}
+use Rattle.paging.specs.Pages.{Pages, nothing}
 use Rattle.paging.specs.Schedules.{Coded, Holding, Schedule-to, Schedule, Prepages, pulls, faults}
-use Rattle.paging.specs.Models.{PagerModel, Keeps, held-on, instants-on, pulls-on}
+use Rattle.paging.specs.Models.{PagerModel, Keeps, held-on}
 use Rattle.paging.specs.Rankings.{next-told, untold}
 use Rattle.paging.specs.Policies.{model, schedule, instants, pulls-of}
-use Rattle.paging.specs.Theorems.{Starts-empty, Least, Policies-least, Dpmin-more-frames}
-use Rattle.paging.proofs.Sizes.{size-nothing}
+use Rattle.paging.specs.Theorems.{Starts-empty, Policies-least, Dpmin-more-frames}
+use Rattle.paging.proofs.Sets.{size-nothing}
 use Rattle.paging.proofs.Models.{pager-schedules}
 use Rattle.paging.proofs.Foremost.{dpmin-keeps}
 use Rattle.paging.proofs.OwnRuns.{own-keeps}

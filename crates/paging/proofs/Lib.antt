@@ -1,6 +1,6 @@
 pub mod Sums
 pub mod Sets
-pub mod Sizes
+pub mod Balance
 pub mod Queues
 pub mod Next
 pub mod Hindmost

@@ -1,9 +1,9 @@
 -- LRU's run: its table has the latest reference of each page, so the page that goes is the oldest. Assumes nothing.
 use mathlib.Core.Path.{_≡_, refl, ap, subst, _∙_}
-use mathlib.Core.Bool.{Bool, true, false, not, _&&_, _||_, cond}
-use mathlib.Core.List.{List, [], _∷_}
+use mathlib.Core.Bool.{Bool, true, false, _&&_, _||_}
+use mathlib.Core.List.{List, []}
 use mathlib.Core.Logic.{_⊎_, inl, inr}
-use Prim.Native.Nat.{ℕ, zero, suc, _+_, _≤_, _<_}
+use Prim.Native.Nat.{ℕ, zero, suc, _≤_, _<_}
 use native.Mathlib.Omega.{arith}
 use lib.Dec.{eqb, ltb}
 use lib.ListN.{length, getD, drop}
@@ -12,13 +12,13 @@ use Rattle.std.proofs.shelf.Tests.{cases-eq, both-ways, false≢true}
 use Rattle.paging.specs.Pages.{codes, Pages, nothing}
 use Rattle.paging.specs.Schedules.{latest, Holding}
 use Rattle.paging.specs.Models.{held-on}
-use Rattle.paging.specs.Rankings.{RankingModel, admit, hindmost, told-of, noted, later, last-told, untold, own-from}
+use Rattle.paging.specs.Rankings.{RankingModel, admit, hindmost, told-of, later, last-told, untold, own-from}
 use Rattle.paging.specs.Policies.{Demand, Oldest}
 use Rattle.paging.specs.Theorems.{Lru-releases-oldest}
 use Rattle.paging.proofs.Next.{latest-at, latest-other, latest-same}
 use Rattle.paging.proofs.Hindmost.{hindmost-behind}
 use Rattle.paging.proofs.Orders.{later-order}
-use Rattle.paging.proofs.OwnRuns.{starting, order-at, own-admits, admits-demand, hindmost-low}
+use Rattle.paging.proofs.OwnRuns.{starting, order-at, own-admits, admits-demand}
 use Rattle.paging.proofs.Told.{run, ranking-more, order-more, held-from}
 
 module _ (f : ℕ) (B : Pages) (s : List ℕ) (short : length s ≤ 65535) where

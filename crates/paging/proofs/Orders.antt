@@ -1,13 +1,9 @@
 -- The orders of LRU's and MIN's rankings keep the laws of an order. Assumes nothing.
-use mathlib.Core.Path.{_≡_, refl, ap}
-use mathlib.Core.Bool.{Bool, true, false, not, _&&_, _||_, cond}
-use mathlib.Core.List.{List, [], _∷_}
-use Prim.Native.Nat.{ℕ, zero, suc, _≤_, _<_}
+use mathlib.Core.List.{[], _∷_}
+use Prim.Native.Nat.{ℕ}
 use native.Mathlib.Omega.{arith}
-use lib.Dec.{eqb, ltb}
 use Rattle.std.proofs.shelf.Ways.{tells}
-use Rattle.paging.specs.Pages.{codes}
-use Rattle.paging.specs.Rankings.{Order, Orders, later, nearer, last-told, next-told, noted, Telling}
+use Rattle.paging.specs.Rankings.{Order, Orders, later, nearer, last-told, next-told, noted}
 
 pub later-order : (k : ℕ → ℕ) → Order (later k)
 later-order k =

@@ -1,21 +1,21 @@
 -- A ranking's own run: its laws as a pager, and which page it releases. Assumes nothing.
 use mathlib.Core.Path.{_≡_, refl, ap, sym, subst, _∙_}
-use mathlib.Core.Bool.{Bool, true, false, not, _&&_, _||_, cond}
+use mathlib.Core.Bool.{Bool, true, false, not, _||_}
 use mathlib.Core.List.{List, [], _∷_, _++_}
 use mathlib.Core.Logic.{_⊎_, inl, inr}
-use Prim.Native.Nat.{ℕ, zero, suc, _+_, _≤_, _<_}
+use Prim.Native.Nat.{ℕ, zero, suc, _≤_, _<_}
 use native.Mathlib.Omega.{arith}
-use lib.Dec.{eqb, leb, ltb}
+use lib.Dec.{eqb}
 use lib.ListN.{length, getD, take, drop}
 use lib.Seq.{drop-cons}
 use Rattle.std.proofs.shelf.Tests.{eq-eqb, eqb-true, le-leb, lt-leb, cases-bool, cases-lt, both-ways, and-parts, or-cases}
 use Rattle.paging.specs.Pages.{codes, Pages, nothing, size, with-page, without}
 use Rattle.paging.specs.Schedules.{Holding}
 use Rattle.paging.specs.Models.{Serve, held-on}
-use Rattle.paging.specs.Rankings.{RankingModel, Orders, OwnRun, admit, hindmost, told-of, told-all, tellings, capped, own-step, own-held, own-from, own}
-use Rattle.paging.specs.Policies.{Replaces, Demand, Behind}
+use Rattle.paging.specs.Rankings.{RankingModel, OwnRun, admit, hindmost, told-of, told-all, tellings, capped, own-step, own-held, own-from, own}
+use Rattle.paging.specs.Policies.{Demand, Behind}
 use Rattle.paging.specs.Theorems.{Own-keeps, Own-releases-hindmost}
-use Rattle.paging.proofs.Sizes.{size-with, size-without}
+use Rattle.paging.proofs.Sets.{size-with, size-out}
 use Rattle.paging.proofs.Hindmost.{hindmost-below, hindmost-held, hindmost-behind}
 use Rattle.paging.proofs.Models.{states, states-more, held-stepping, stepping-keeps}
 
@@ -58,7 +58,7 @@ module _ (o : ℕ → ℕ → Bool) (f x : ℕ) (M : Pages) (some : 1 ≤ f) (sm
             within = omega (
               arith,
               size-with x (without (hindmost o codes M) M),
-              size-without (hindmost o codes M) M (hindmost-low o M) (hindmost-goes o f M some many),
+              size-out (hindmost o codes M) M (hindmost-low o M) (hindmost-goes o f M some many),
             );
             only = λ h c _ _. absurd (both-ways (M x) m h);
           })

@@ -1,4 +1,4 @@
-use Rattle.paging.proofs.Sizes.{pulls-balance}
+use Rattle.paging.proofs.Balance.{pulls-balance}
 use Rattle.paging.proofs.FewestPulls.{min-pulls-least}
 use Rattle.paging.proofs.FewestFaults.{dpmin-faults-least, dpmin-faults-latest}
 use Rattle.paging.proofs.theorems.schedules_stand.Needs as need
