@@ -42,3 +42,7 @@ module _ (b m m′ : PagerModel) (s : List ℕ) (t : ℕ) (here : t < length s) 
   faults-step =
       let e : bit (not (m [] (getD s t 0))) ≡ bit (not (held-on b s t (getD s t 0))) = rw held-before in
       omega (arith, total-more t (λ k. bit (not (held-on b s k (getD s k 0)))))
+
+-- the pages below n of N that M has not
+abbrev pub fresh : Pages → Pages → ℕ → ℕ
+fresh M N n = total n (λ c. bit (N c && not (M c)))

@@ -1,2 +1,3 @@
 pub mod Tables
+pub mod Prepaging
 pub mod Pagers

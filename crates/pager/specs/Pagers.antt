@@ -2,9 +2,12 @@
 use mathlib.Core.List.{List}
 use Prim.Native.Nat.{ℕ}
 use Rattle.paging.specs.Models.{PagerModel}
-use Rattle.paging.specs.Policies.{fifo}
+use Rattle.paging.specs.Frames.{frames-of}
+use Rattle.paging.specs.Sets.{pages}
+use Rattle.paging.specs.Policies.{fifo, dpmin}
 use Rattle.pager.specs.Tables.{codes-of, queue}
 use Rattle.pager.specs.declared.fifo.FifoPager.{FifoPager}
+use Rattle.pager.specs.declared.dpmin.DpminPager.{DpminPager}
 
 -- the pages held, the one pulled longest ago first
 abbrev pub queue-of : FifoPager → List ℕ
@@ -15,3 +18,9 @@ fifo-model p = fifo (p .room) (queue-of p)
 
 abbrev pub fifo-room : FifoPager → ℕ
 fifo-room p = p .room
+
+abbrev pub dpmin-model : DpminPager → PagerModel
+dpmin-model p = dpmin (frames-of (p .frames)) (pages (p .held))
+
+abbrev pub dpmin-room : DpminPager → ℕ
+dpmin-room p = frames-of (p .frames)

@@ -1,4 +1,5 @@
 //! Pagers.
+pub mod dpmin;
 pub mod fifo;
 pub mod runs;
 
