@@ -4,3 +4,5 @@ pub mod Stacks
 pub mod Places
 pub mod Settles
 pub mod Passes
+pub mod Edges
+pub mod Inclusions

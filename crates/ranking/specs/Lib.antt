@@ -1,3 +1,5 @@
 pub mod Tables
 pub mod Places
 pub mod Stack
+pub mod Edges
+pub mod Theorems

@@ -3,9 +3,11 @@ ghost use Rattle.paging.specs.Rankings.{Orders, RankingModel, telling, told};
 ghost use mathlib.Core.List.{[]};
 ghost use mathlib.Core.Path.{_≡_};
 
+pub mod edge;
 pub mod last_reference;
 pub mod next_reference;
 pub mod pass;
+pub mod theorems;
 
 /// An order of all 256 codes that moves as it is told of references.
 ///
