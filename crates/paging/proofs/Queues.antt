@@ -13,8 +13,8 @@ use Rattle.paging.specs.Schedules.{pulled}
 use Rattle.paging.specs.Models.{Serve, Keeps, stepping}
 use Rattle.paging.specs.Policies.{fifo-step, fifo}
 use Rattle.paging.specs.Queues.{once, coded}
-use Rattle.paging.proofs.Sets.{size-in, page-pulled}
-use Rattle.paging.proofs.Sizes.{size-nothing, size-with}
+use Rattle.paging.proofs.Sets.{size-in, one-pulled}
+use Rattle.paging.proofs.Sets.{size-nothing, size-with}
 use Rattle.paging.proofs.Models.{stepping-keeps}
 
 pub has-append : (a b : List ℕ) (c : ℕ) → has (a ++ b) c ≡ (has a c || has b c)
@@ -117,7 +117,7 @@ fifo-in-has f x q c = go (cases-bool (leb f (length q)))
 pub fifo-in-pulled : (f x : ℕ) (q : List ℕ) → x < codes → has q x ≡ false → pulled (has q) (has (fifo-in f x q)) ≡ 1
 fifo-in-pulled f x q l out =
     ap (pulled (has q)) (has-push (cond (leb f (length q)) (drop 1 q) q) x) ∙
-    page-pulled x (has q) (has (cond (leb f (length q)) (drop 1 q) q)) l out (fifo-in-has f x q)
+    one-pulled x (has q) (has (cond (leb f (length q)) (drop 1 q) q)) l out (fifo-in-has f x q)
 
 -- FIFO keeps the laws of a pager
 module _ (f : ℕ) (some : 1 ≤ f) (most : f ≤ 64) where

@@ -13,7 +13,7 @@ use Rattle.std.proofs.shelf.Tests.{eq-eqb, ne-eqb, cases-eq, cases-bool, cases-
 use Rattle.paging.specs.Pages.{bit, total, codes, Pages, nothing, size, with-page, without}
 use Rattle.paging.specs.Flags.{flagged}
 use Rattle.paging.specs.Schedules.{pulled}
-use Rattle.paging.proofs.Sums.{total-zero, total-le, total-add, only-one}
+use Rattle.paging.proofs.Sums.{total-zero, total-le, total-add, only-one, only-most}
 
 pub total-same : (n : ℕ) (g h : ℕ → ℕ) → ((c : ℕ) → c < n → g c ≡ h c) → total n g ≡ total n h
 total-same n g h e = omega (arith, total-le n g h (λ c l. omega (arith, e c l)), total-le n h g (λ c l. omega (arith, e c l)))
@@ -29,6 +29,9 @@ total-most (suc n) M = let r = total-most n M in let q = bit-most (M n) in omega
 
 pub size-most : (M : Pages) → size M ≤ 256
 size-most M = total-most codes M
+
+pub size-nothing : size nothing ≡ 0
+size-nothing = total-zero codes (λ c. 0) (λ c _. refl)
 
 -- a set that holds one page more, and one page less
 pub size-in : (x : ℕ) (M : Pages) → x < codes → M x ≡ false → size (with-page x M) ≡ size M + 1
@@ -72,9 +75,28 @@ without-same z M h = fun-ext (λ c. each c (cases-eq z c))
     each c (inl e) = rw (← e, h) (grind (arith, tells))
     each c (inr ne) = rw (ne-eqb z c ne)
 
--- one page comes
-pub page-pulled : (x : ℕ) (M N : Pages) → x < codes → M x ≡ false → ((c : ℕ) → N c ≡ true → M c ≡ true) → pulled M (with-page x N) ≡ 1
-page-pulled x M N l out less =
+pub size-with : (x : ℕ) (M : Pages) → size (with-page x M) ≤ size M + 1
+size-with x M =
+    omega (
+      arith,
+      only-most codes x true,
+      total-add codes (λ c. bit (M c)) (λ c. bit (eqb x c && true)),
+      total-le codes (λ c. bit (eqb x c || M c)) (λ c. bit (M c) + bit (eqb x c && true)) (λ c _. each (eqb x c) (M c)),
+    )
+  where
+    each : (a b : Bool) → bit (a || b) ≤ bit b + bit (a && true)
+    each a b = grind arith
+
+-- how many pages come
+pub none-pulled : (M : Pages) → pulled M M ≡ 0
+none-pulled M = total-zero codes (λ c. bit (M c && not (M c))) (λ c _. each (M c))
+  where
+    each : (b : Bool) → bit (b && not b) ≡ 0
+    each true = refl
+    each false = refl
+
+pub one-pulled : (x : ℕ) (M N : Pages) → x < codes → M x ≡ false → ((c : ℕ) → N c ≡ true → M c ≡ true) → pulled M (with-page x N) ≡ 1
+one-pulled x M N l out less =
     omega (
       arith,
       only-one codes x true l,

@@ -17,7 +17,10 @@ impl DpminPager {
         ensures holding { λ r. ⌜ dpmin-model r ≡ dpmin (frames-of frames) nothing ⌝ }
         ensures room { λ r. ⌜ dpmin-room r ≡ frames-of frames ⌝ }
     {
-        DpminPager { held: PageSet::new(), frames }
+        DpminPager {
+            held: PageSet::new(),
+            frames,
+        }
     }
 }
 

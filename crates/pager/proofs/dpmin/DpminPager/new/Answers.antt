@@ -4,7 +4,7 @@ use native.Mathlib.Omega.{arith}
 use Rattle.paging.specs.Pages.{size}
 use Rattle.paging.specs.Policies.{dpmin}
 use Rattle.paging.specs.Frames.{frames-of}
-use Rattle.paging.proofs.Sizes.{size-nothing}
+use Rattle.paging.proofs.Sets.{size-nothing}
 use Rattle.pager.proofs.dpmin.DpminPager.new.Needs as need
 
 pub ghost-result : need.ghost-result

@@ -4,7 +4,7 @@ use native.Mathlib.Omega.{arith}
 use lib.ListN.{getD}
 use Rattle.paging.specs.Pages.{size, with-page}
 use Rattle.paging.specs.Sets.{pages}
-use Rattle.paging.proofs.Sizes.{size-nothing, size-with}
+use Rattle.paging.proofs.Sets.{size-nothing, size-with}
 use Rattle.pager.proofs.Foremost.{soon-none, soon-more}
 use Rattle.pager.proofs.dpmin.prepage.collect.Needs as need
 
@@ -13,8 +13,7 @@ loop-end-holds c = (c .pre ∙ soon-none (c .args .row .now), omega (arith, ap s
 
 pub loop-end-again : need.loop-end-again
 loop-end-again c =
-    let x = getD (c .args .row .now) (c .loop-end .end) 0 in
-    (
+    let x = getD (c .args .row .now) (c .loop-end .end) 0 in (
       c .insert .ensures ∙ ap (with-page x) (c .loop-end .inv .0) ∙ soon-more (c .args .row .now) (c .loop-end .end) (c .loop-end-test .taken),
       omega (arith, ap size (c .insert .ensures), size-with x (pages (c .loop-end .new))),
       omega arith,

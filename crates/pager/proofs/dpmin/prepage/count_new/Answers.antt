@@ -16,14 +16,12 @@ pub loop-code-again : need.loop-code-again
 loop-code-again c =
     let more = total-more (c .loop-code .code) (λ k. bit (pages (c .args .new .now) k && not (pages (c .args .held .now) k))) in
     elim (c .if-is-new .came) [
-      then-is-new w ↦
-        (
-          omega (arith, w .count-is, c .loop-code .inv .0, more, ap bit (sym (c .is-new .ensures) ∙ w .if-is-new .taken)),
-          omega (arith, w .count-is, c .loop-code .inv .1)
-        )
-    | else-is-new w ↦
-        (
-          omega (arith, w .count-is, c .loop-code .inv .0, more, ap bit (sym (c .is-new .ensures) ∙ w .if-is-new .left)),
-          omega (arith, w .count-is, c .loop-code .inv .1)
-        )
+      | then-is-new w ↦ (
+        omega (arith, w .count-is, c .loop-code .inv .0, more, ap bit (sym (c .is-new .ensures) ∙ w .if-is-new .taken)),
+        omega (arith, w .count-is, c .loop-code .inv .1),
+      )
+      | else-is-new w ↦ (
+        omega (arith, w .count-is, c .loop-code .inv .0, more, ap bit (sym (c .is-new .ensures) ∙ w .if-is-new .left)),
+        omega (arith, w .count-is, c .loop-code .inv .1),
+      )
     ]

@@ -2,7 +2,7 @@
 use mathlib.Core.Path.{ap, refl, sym, _∙_}
 use Rattle.paging.specs.Pages.{size}
 use Rattle.paging.proofs.Sets.{flagged-none}
-use Rattle.paging.proofs.Sizes.{size-nothing}
+use Rattle.paging.proofs.Sets.{size-nothing}
 use Rattle.paging.proofs.set.PageSet.new.Needs as need
 
 pub ghost-result : need.ghost-result

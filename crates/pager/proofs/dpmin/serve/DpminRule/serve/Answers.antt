@@ -10,7 +10,7 @@ use Rattle.paging.specs.Pages.{Pages}
 use Rattle.paging.specs.Frames.{frames-of}
 use Rattle.paging.specs.Sets.{pages}
 use Rattle.paging.specs.Policies.{dpmin-step, dpmin, itself, foremost}
-use Rattle.paging.proofs.Sizes.{none-pulled}
+use Rattle.paging.proofs.Sets.{none-pulled}
 use Rattle.pager.proofs.Serves.{stepped-none, stepped-first}
 use Rattle.pager.proofs.dpmin.serve.DpminRule.serve.Needs as need
 
@@ -51,8 +51,8 @@ returns c =
     let x = getD row 0 0 in
     let out : M x ≡ false = sym (c .contains .ensures) ∙ c .if-contains .left in
     let e : N ≡ foremost f (x ∷ drop 1 row) M =
-        c .prepage-new .ensures .set ∙ ap (λ (k : ℕ). foremost k row M) (c .get .ensures .value) ∙
-        ap (λ (r : List ℕ). foremost f r M) (drop-more row 0 0 (omega (arith, c .if-row-eq0 .left))) in
+    c .prepage-new .ensures .set ∙ ap (λ (k : ℕ). foremost k row M) (c .get .ensures .value) ∙
+    ap (λ (r : List ℕ). foremost f r M) (drop-more row 0 0 (omega (arith, c .if-row-eq0 .left))) in
     record {
       moves = stepped-first (dpmin-step f) itself N M row (omega (arith, c .if-row-eq0 .left)) (e ∙ sym (dpmin-miss f x (drop 1 row) M out));
       frames = refl;

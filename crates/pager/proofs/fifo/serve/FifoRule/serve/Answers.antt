@@ -9,7 +9,7 @@ use Rattle.paging.specs.Pages.{has}
 use Rattle.paging.specs.Schedules.{pulled}
 use Rattle.paging.specs.Models.{PagerModel, served, stepping}
 use Rattle.paging.specs.Policies.{fifo-step, fifo}
-use Rattle.paging.proofs.Sizes.{none-pulled}
+use Rattle.paging.proofs.Sets.{none-pulled}
 use Rattle.paging.proofs.Queues.{fifo-in, fifo-hit, fifo-miss, fifo-in-pulled}
 use Rattle.pager.specs.Pagers.{queue-of}
 use Rattle.pager.proofs.Serves.{stepped-none, stepped-first}
