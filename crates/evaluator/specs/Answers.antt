@@ -1,20 +1,24 @@
 -- What the calls of a trial answer, of its string. Assumes nothing.
 use mathlib.Core.Bool.{cond}
-use mathlib.Core.List.{List, [], _++_}
-use Prim.Native.Nat.{ℕ}
+use mathlib.Core.List.{List, [], _++_, map}
+use Prim.Native.Nat.{ℕ, _+_}
+use Rattle.std.specs.Iters.{counting}
 use lib.Dec.{eqb, leb}
 use lib.ListN.{length, drop}
+use Rattle.std.specs.declared.option.Option.{Option}
+use Rattle.std.specs.declared.option.Option.the-variants.{Some, None}
 use Rattle.std.specs.declared.result.Result.{Result}
 use Rattle.std.specs.declared.result.Result.the-variants.{Ok, Err}
 use Rattle.paging.specs.declared.policy.Policy.{Policy}
 use Rattle.paging.specs.declared.policy.Policy.the-variants.{Lru, Min, Dpmin, Fifo}
 use Rattle.paging.specs.declared.refusal.Refusal.{Refusal}
-use Rattle.paging.specs.declared.refusal.Refusal.the-variants.{UnknownLetter, BadFrameCount, PagerHoldsPages, OutputTooShort}
+use Rattle.paging.specs.declared.refusal.Refusal.the-variants.{UnknownLetter, BadFrameCount, PolicyWithoutEdge, NoFrameCountWithin, PagerHoldsPages, OutputTooShort}
 use Rattle.paging.specs.Frames.{is-frames}
 use Rattle.paging.specs.Pages.{size}
 use Rattle.paging.specs.Models.{PagerModel, after, instants-on, pulls-on}
 use Rattle.paging.specs.Rankings.{RankingModel, told-all, tellings}
 use Rattle.paging.specs.Policies.{instants, pulls-of}
+use Rattle.ranking.specs.Edges.{edge, faults-at}
 use Rattle.ranking.specs.Stack.{pass-row}
 
 -- the policy of a letter: L, M, D or F
@@ -34,6 +38,33 @@ by-policy l f go = and-then (policy-of l) (λ p. cond (is-frames f) (go p) (Err 
 -- figures: the fault instants and the pulls of the policy's schedule
 abbrev pub figures-answer : ℕ → ℕ → List ℕ → Result (ℕ × ℕ) Refusal
 figures-answer l f s = by-policy l f (λ p. Ok (instants p f s, pulls-of p f s))
+
+-- an edge is answered, and where there is none the call is refused
+abbrev pub found : Option ℕ → Result ℕ Refusal
+found (Some e) = Ok e
+found None = Err NoFrameCountWithin
+
+-- the fault instants of a policy by frame count
+abbrev pub instants-at : Policy → List ℕ → ℕ → ℕ
+instants-at p s f = instants p f s
+
+-- and those at the frame counts 1 to 64
+abbrev pub instants-row : Policy → List ℕ → List ℕ
+instants-row p s = map (λ k. instants p (k + 1) s) (counting 0 64)
+
+-- edge: of a policy, over its fault instants; FIFO has none
+abbrev pub policy-edge : List ℕ → ℕ → Policy → Result ℕ Refusal
+policy-edge s c Fifo = Err PolicyWithoutEdge
+policy-edge s c Lru = found (edge (instants-at Lru s) c)
+policy-edge s c Min = found (edge (instants-at Min s) c)
+policy-edge s c Dpmin = found (edge (instants-at Dpmin s) c)
+
+abbrev pub edge-answer : ℕ → List ℕ → ℕ → Result ℕ Refusal
+edge-answer l s c = and-then (policy-of l) (policy-edge s c)
+
+-- and of any ranking, over the faults of its own runs
+abbrev pub ranking-edge : RankingModel → List ℕ → ℕ → Result ℕ Refusal
+ranking-edge r s c = found (edge (faults-at r s) c)
 
 -- run: the fault instants and the pulls of a pager that holds nothing
 abbrev pub run-answer : PagerModel → List ℕ → Result (ℕ × ℕ) Refusal

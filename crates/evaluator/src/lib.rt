@@ -1,6 +1,7 @@
 //! The trial: a string of page references, and what the policies, rankings and pagers make of it.
 ghost use Prim.Native.Nat.{_≤_};
 
+pub mod edges;
 pub mod letters;
 pub mod pages;
 pub mod runs;

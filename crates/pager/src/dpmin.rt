@@ -9,6 +9,8 @@ use paging::set::PageSet;
 mod prepage;
 mod serve;
 
+pub use serve::DpminRule;
+
 /// A pager that on a fault holds the pages whose next references are nearest.
 #[derive(Drop)]
 pub struct DpminPager {

@@ -8,6 +8,8 @@ ghost use mathlib.Core.Path.{_≡_};
 
 mod serve;
 
+pub use serve::FifoRule;
+
 /// What a frame holds.
 #[derive(Clone, Copy)]
 pub struct Frame {

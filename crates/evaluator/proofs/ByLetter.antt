@@ -1,0 +1,29 @@
+-- Answers by letter, once the policy is known. Assumes nothing.
+use mathlib.Core.Path.{_≡_, ap, sym, _∙_}
+use mathlib.Core.List.{List}
+use Prim.Native.Nat.{ℕ, zero, suc, _+_, _≤_}
+use native.Mathlib.Numerals.{add-one}
+use native.Mathlib.Omega.{arith}
+use Rattle.std.specs.declared.result.Result.{Result}
+use Rattle.std.specs.declared.result.Result.the-variants.{Ok}
+use Rattle.std.proofs.shelf.Counted.{getD-map-counting}
+use Rattle.paging.specs.declared.policy.Policy.{Policy}
+use Rattle.paging.specs.declared.refusal.Refusal.{Refusal}
+use Rattle.ranking.specs.Edges.{edge, at-count}
+use Rattle.ranking.proofs.Edges.{edge-same}
+use Rattle.evaluator.specs.Answers.{policy-of, and-then, instants-at, instants-row}
+
+-- the letter's answer was the policy q, and q is p
+pub chosen : (letter : ℕ) (p q : Policy) (r : Result Policy Refusal) → r ≡ policy-of letter → r ≡ Ok q → q ≡ p → policy-of letter ≡ Ok p
+chosen letter p q r e w i = sym e ∙ w ∙ ap Ok i
+
+pub at-policy : {Y : Type 0} (letter : ℕ) (p : Policy) (go : Policy → Result Y Refusal) → policy-of letter ≡ Ok p → go p ≡ and-then (policy-of letter) go
+at-policy {Y} letter p go e = sym (ap (λ (r : Result Policy Refusal). and-then r go) e)
+
+-- the edge in a row is that in the numbers of the row
+pub row-edge : (p : Policy) (s : List ℕ) (ceiling : ℕ) → edge (at-count (instants-row p s)) ceiling ≡ edge (instants-at p s) ceiling
+row-edge p s ceiling = edge-same (at-count (instants-row p s)) (instants-at p s) ceiling at
+  where
+    at : (d : ℕ) → 1 ≤ d → d ≤ 64 → at-count (instants-row p s) d ≡ instants-at p s d
+    at zero l m = absurd (omega arith)
+    at (suc d) l m = getD-map-counting (λ k. instants-at p s (k + 1)) 0 64 d d 0 (omega arith) (omega arith) ∙ ap (instants-at p s) (add-one d)
