@@ -1,9 +1,11 @@
 -- What each pager of the code stands for. Assumes nothing.
 use mathlib.Core.List.{List}
 use Prim.Native.Nat.{ℕ}
-use Rattle.paging.specs.Models.{PagerModel}
+use Rattle.paging.specs.Models.{PagerModel, stepping}
 use Rattle.paging.specs.Frames.{frames-of}
+use Rattle.paging.specs.Pages.{Pages}
 use Rattle.paging.specs.Sets.{pages}
+use Rattle.paging.specs.Rankings.{RankingModel, OwnRun, own-step, own-held}
 use Rattle.paging.specs.Policies.{fifo, dpmin}
 use Rattle.pager.specs.Tables.{codes-of, queue}
 use Rattle.pager.specs.declared.fifo.FifoPager.{FifoPager}
@@ -24,3 +26,7 @@ dpmin-model p = dpmin (frames-of (p .frames)) (pages (p .held))
 
 abbrev pub dpmin-room : DpminPager → ℕ
 dpmin-room p = frames-of (p .frames)
+
+-- a ranking's own run in f frames, from after n references on
+abbrev pub ranked-model : RankingModel → ℕ → ℕ → Pages → PagerModel
+ranked-model r f n M = stepping (own-step f) own-held (record { ranking = r; count = n; held = M })

@@ -1,6 +1,7 @@
 //! Pagers.
 pub mod dpmin;
 pub mod fifo;
+pub mod ranked;
 pub mod runs;
 
 ghost use Prim.Native.Nat.{ℕ};

@@ -11,7 +11,7 @@ use lib.Seq.{drop-cons}
 use Rattle.std.proofs.shelf.Tests.{eq-eqb, eqb-true, le-leb, lt-leb, cases-bool, cases-lt, both-ways, and-parts, or-cases}
 use Rattle.paging.specs.Pages.{codes, Pages, nothing, size, with-page, without}
 use Rattle.paging.specs.Schedules.{Holding}
-use Rattle.paging.specs.Models.{Serve, held-on}
+use Rattle.paging.specs.Models.{Serve, Keeps, stepping, held-on}
 use Rattle.paging.specs.Rankings.{RankingModel, OwnRun, admit, hindmost, told-of, told-all, tellings, capped, own-step, own-held, own-from, own}
 use Rattle.paging.specs.Policies.{Demand, Behind}
 use Rattle.paging.specs.Theorems.{Own-keeps, Own-releases-hindmost}
@@ -37,7 +37,7 @@ pub hindmost-low : (o : ℕ → ℕ → Bool) (M : Pages) → hindmost o codes M
 hindmost-low o M = hindmost-below o codes M (omega arith)
 
 module _ (o : ℕ → ℕ → Bool) (f x : ℕ) (M : Pages) (some : 1 ≤ f) (small : size M ≤ f) where
-  admit-serve : Serve f x M (admit f (hindmost o codes M) x M)
+  pub admit-serve : Serve f x M (admit f (hindmost o codes M) x M)
   admit-serve = go (cases-bool (M x)) (cases-lt (size M) f)
     where
       go : (M x ≡ true) ⊎ (M x ≡ false) → (size M < f) ⊎ (f ≤ size M) → Serve f x M (admit f (hindmost o codes M) x M)
@@ -72,11 +72,15 @@ own-fits f (x ∷ xs) q some small =
 abbrev pub starting : RankingModel → Pages → OwnRun
 starting r B = record { ranking = r; count = 0; held = B }
 
+-- a run keeps the laws of a pager from any state on
+pub run-keeps : (f : ℕ) (q : OwnRun) → 1 ≤ f → f ≤ 64 → size (q .held) ≤ f → Keeps f (stepping (own-step f) own-held q)
+run-keeps f q some most small =
+    stepping-keeps (own-step f) own-held (λ p. size (p .held) ≤ f) (λ p u. own-fits f u p some) f some most (λ p. refl) (λ p i. i)
+    (λ p x xs _ i. admit-serve (told-of (p .ranking) (capped (suc (p .count))) x xs []) f x (p .held) some i)
+    q small
+
 pub own-keeps : Own-keeps
-own-keeps r f B some most small =
-    stepping-keeps (own-step f) own-held (λ q. size (q .held) ≤ f) (λ q u. own-fits f u q some) f some most (λ q. refl) (λ q i. i)
-    (λ q x xs _ i. admit-serve (told-of (q .ranking) (capped (suc (q .count))) x xs []) f x (q .held) some i)
-    (starting r B) small
+own-keeps r f B some most small = run-keeps f (starting r B) some most small
 
 -- what is held after a reference was held before, or is the page referenced
 pub admit-from : (f z x : ℕ) (M : Pages) (c : ℕ) → admit f z x M c ≡ true → (x ≡ c) ⊎ (M c ≡ true)

@@ -28,7 +28,7 @@ fn next_places(string: &[u8]) -> [u16; 4096]
 }
 
 /// Whether a has to go before b does.
-fn is_behind<R: Ranking>(ranking: &R, a: u8, b: u8) -> bool
+pub fn is_behind<R: Ranking>(ranking: &R, a: u8, b: u8) -> bool
     ensures { λ r. ⌜ r ≡ order (now (ranking .entry)) [] b a ⌝ }
 {
     ranking.ahead(b, a)

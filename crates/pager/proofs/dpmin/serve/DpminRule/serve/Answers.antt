@@ -11,14 +11,9 @@ use Rattle.paging.specs.Frames.{frames-of}
 use Rattle.paging.specs.Sets.{pages}
 use Rattle.paging.specs.Policies.{dpmin-step, dpmin, itself, foremost}
 use Rattle.paging.proofs.Sets.{none-pulled}
+use Rattle.paging.proofs.Foremost.{dpmin-hit, dpmin-fault}
 use Rattle.pager.proofs.Serves.{stepped-none, stepped-first}
 use Rattle.pager.proofs.dpmin.serve.DpminRule.serve.Needs as need
-
-dpmin-hit : (f x : ℕ) (xs : List ℕ) (M : Pages) → M x ≡ true → dpmin-step f (x ∷ xs) M ≡ M
-dpmin-hit f x xs M h = rw h
-
-dpmin-miss : (f x : ℕ) (xs : List ℕ) (M : Pages) → M x ≡ false → dpmin-step f (x ∷ xs) M ≡ foremost f (x ∷ xs) M
-dpmin-miss f x xs M h = rw h
 
 pub returns-then-row-eq0 : need.returns-then-row-eq0
 returns-then-row-eq0 c =
@@ -54,7 +49,7 @@ returns c =
     c .prepage-new .ensures .set ∙ ap (λ (k : ℕ). foremost k row M) (c .get .ensures .value) ∙
     ap (λ (r : List ℕ). foremost f r M) (drop-more row 0 0 (omega (arith, c .if-row-eq0 .left))) in
     record {
-      moves = stepped-first (dpmin-step f) itself N M row (omega (arith, c .if-row-eq0 .left)) (e ∙ sym (dpmin-miss f x (drop 1 row) M out));
+      moves = stepped-first (dpmin-step f) itself N M row (omega (arith, c .if-row-eq0 .left)) (e ∙ sym (dpmin-fault f x (drop 1 row) M out));
       frames = refl;
       answer = c .count-new-pulls .ensures;
     }
