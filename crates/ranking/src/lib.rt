@@ -7,6 +7,8 @@ pub mod edge;
 pub mod last_reference;
 pub mod next_reference;
 pub mod pass;
+#[cfg(test)]
+mod tests;
 pub mod theorems;
 
 /// An order of all 256 codes that moves as it is told of references.
