@@ -9,6 +9,8 @@ use Rattle.std.specs.declared.result.Result.the-variants.{Ok}
 use Rattle.std.proofs.shelf.Counted.{getD-map-counting}
 use Rattle.paging.specs.declared.policy.Policy.{Policy}
 use Rattle.paging.specs.declared.refusal.Refusal.{Refusal}
+use Rattle.paging.specs.Models.{PagerModel, instants-on, pulls-on}
+use Rattle.paging.specs.Policies.{model, instants, pulls-of}
 use Rattle.ranking.specs.Edges.{edge, at-count}
 use Rattle.ranking.proofs.Edges.{edge-same}
 use Rattle.evaluator.specs.Answers.{policy-of, and-then, instants-at, instants-row}
@@ -27,3 +29,9 @@ row-edge p s ceiling = edge-same (at-count (instants-row p s)) (instants-at p s)
     at : (d : ℕ) → 1 ≤ d → d ≤ 64 → at-count (instants-row p s) d ≡ instants-at p s d
     at zero l m = absurd (omega arith)
     at (suc d) l m = getD-map-counting (λ k. instants-at p s (k + 1)) 0 64 d d 0 (omega arith) (omega arith) ∙ ap (instants-at p s) (add-one d)
+
+-- the figures of a pager that is the policy's model
+pub model-figures : (p q : Policy) (f : ℕ) (s : List ℕ) (b : PagerModel) (r : ℕ × ℕ) → r ≡ (instants-on b s, pulls-on b s) → b ≡ model p f → q ≡ p →
+    r ≡ (instants q f s, pulls-of q f s)
+model-figures p q f s b r e m i =
+    e ∙ ap (λ (d : PagerModel). (instants-on d s, pulls-on d s)) m ∙ ap (λ (d : Policy). (instants d f s, pulls-of d f s)) (sym i)

@@ -2,6 +2,7 @@
 ghost use Prim.Native.Nat.{_≤_};
 
 pub mod edges;
+pub mod figures;
 pub mod letters;
 pub mod pages;
 pub mod runs;

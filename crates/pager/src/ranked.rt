@@ -10,6 +10,8 @@ mod admit;
 mod places;
 mod serve;
 
+pub use serve::RankingRule;
+
 /// A pager that moves as the own run of its ranking does, and counts its serves.
 #[derive(Drop)]
 pub struct RankingPager<R> {
