@@ -1,0 +1,2 @@
+//! Recordings: names, name lists over provided memory, and the packed form of a row of names.
+pub mod names;
