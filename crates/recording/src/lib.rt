@@ -1,2 +1,3 @@
 //! Recordings: names, name lists over provided memory, and the packed form of a row of names.
 pub mod names;
+pub mod list;
