@@ -1,3 +1,5 @@
 //! Recordings: names, name lists over provided memory, and the packed form of a row of names.
 pub mod names;
 pub mod list;
+pub mod fault;
+mod reader;

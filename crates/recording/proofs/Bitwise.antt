@@ -1,0 +1,24 @@
+-- Numbers and their bits: each gives the other back.
+use mathlib.Core.Path.{_≡_, refl, ap, sym, _∙_}
+use mathlib.Core.List.{List}
+use Prim.Native.Nat.{ℕ, zero, suc, _+_, _*_, _/_, _%_, _^_, _<_, _≤_}
+use native.Mathlib.Nat.{pow-suc}
+use native.Mathlib.Numerals.{add-one}
+use native.Mathlib.Omega.{arith}
+use lib.Pow.{pow-mono}
+use Rattle.recording.specs.Bits.{bit-in, bit-of, number-at}
+
+pub number-none : (b : ℕ → ℕ) (i : ℕ) → 0 ≡ number-at b i 0
+unfolding number-at
+number-none b i = refl
+
+pub number-more : (b : ℕ → ℕ) (i k v : ℕ) → v ≡ number-at b i k → v * 2 + b (i + k) ≡ number-at b i (k + 1)
+unfolding number-at
+number-more b i k v e = rw (add-one k) (ap (λ n. n * 2 + b (i + k)) e)
+
+-- one bit more at the end of a number of k bits, which still fits sixteen
+pub bit-more : (k v d : ℕ) → v < 2 ^ k → d < 2 → v * 2 + d < 2 ^ (k + 1)
+bit-more k v d h l = rw (add-one k, pow-suc) (omega arith)
+
+pub fits-16 : (k v : ℕ) → k < 16 → v < 2 ^ (k + 1) → v < 65536
+fits-16 k v h l = let l16 : k + 1 ≤ 16 = omega arith in let p : 2 ^ (k + 1) ≤ 2 ^ 16 = pow-mono l16 in omega arith
