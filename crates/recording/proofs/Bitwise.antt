@@ -5,7 +5,9 @@ use Prim.Native.Nat.{ℕ, zero, suc, _+_, _*_, _/_, _%_, _^_, _<_, _≤_}
 use native.Mathlib.Nat.{pow-suc}
 use native.Mathlib.Numerals.{add-one}
 use native.Mathlib.Omega.{arith}
+use lib.ListN.{getD, take}
 use lib.Pow.{pow-mono}
+use Rattle.std.proofs.shelf.Lists.{getD-take}
 use Rattle.recording.specs.Bits.{bit-in, bit-of, number-at}
 
 pub number-none : (b : ℕ → ℕ) (i : ℕ) → 0 ≡ number-at b i 0
@@ -22,3 +24,18 @@ bit-more k v d h l = rw (add-one k, pow-suc) (omega arith)
 
 pub fits-16 : (k v : ℕ) → k < 16 → v < 2 ^ (k + 1) → v < 65536
 fits-16 k v h l = let l16 : k + 1 ≤ 16 = omega arith in let p : 2 ^ (k + 1) ≤ 2 ^ 16 = pow-mono l16 in omega arith
+
+pub number-same : (b c : ℕ → ℕ) (i j n : ℕ) → ((k : ℕ) → k < n → b (i + k) ≡ c (j + k)) → number-at b i n ≡ number-at c j n
+unfolding number-at
+number-same b c i j zero same = refl
+number-same b c i j (suc n) same =
+    let e = number-same b c i j n (λ k h. same k (omega arith)) in
+    let f = same n (omega arith) in
+    cc
+
+-- the bits of the first bytes
+pub bit-of-take : (xs : List ℕ) (m i : ℕ) → i < m * 8 → bit-of 8 (take m xs) i ≡ bit-of 8 xs i
+bit-of-take xs m i h = let l : i / 8 < m = omega arith in rw (getD-take m xs (i / 8) 0 l)
+
+pub number-take : (xs : List ℕ) (m i n : ℕ) → i + n ≤ m * 8 → number-at (bit-of 8 (take m xs)) i n ≡ number-at (bit-of 8 xs) i n
+number-take xs m i n h = number-same (bit-of 8 (take m xs)) (bit-of 8 xs) i i n (λ k l. bit-of-take xs m (i + k) (omega arith))

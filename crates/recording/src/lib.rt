@@ -3,3 +3,4 @@ pub mod names;
 pub mod list;
 pub mod fault;
 mod reader;
+mod layout;
