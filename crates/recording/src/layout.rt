@@ -1,6 +1,6 @@
 //! The layout of a recording: version, kind, zero bits, count, names, and zero bits up to a full byte.
-
-ghost use Rattle.recording.specs.Reading.{by-bytes, head};
+ghost use Prim.Native.Nat.{_≤_};
+ghost use Rattle.recording.specs.Reading.{body, by-bytes, bytes-for, head, laid-out};
 ghost use mathlib.Core.Path.{_≡_};
 use crate::fault::{Layer, LoadFault};
 use crate::reader::Reader;
@@ -33,4 +33,40 @@ pub fn header(bytes: &[u8], kind: u16) -> Result<usize, LoadFault>
         return Err(refused(Refusal::TooManyReferences, 1));
     }
     Ok(count as usize)
+}
+
+/// How many bytes a recording of so many names has.
+pub fn bytes_for(width: usize, count: usize) -> usize
+    requires width { ⌜ width ≤ 16 ⌝ }
+    requires count { ⌜ count ≤ 4096 ⌝ }
+    ensures { λ r. ⌜ r ≡ bytes-for width count ⌝ }
+{
+    3 + (count * width + 7) / 8
+}
+
+// Whether length and spare bits are those of a recording of so many names: the count.
+fn checked_body(bytes: &[u8], width: usize, count: usize) -> Result<usize, LoadFault>
+    requires width { ⌜ width ≤ 16 ⌝ }
+    requires count { ⌜ count ≤ 4096 ⌝ }
+    ensures { λ r. ⌜ r ≡ body width (now (bytes .entry)) count ⌝ }
+{
+    let needed = bytes_for(width, count);
+    if bytes.len() != needed {
+        return Err(refused(Refusal::WrongLength, bytes.len().min(needed)));
+    }
+    let used = 24 + count * width;
+    let mut reader = Reader { bytes, at: used };
+    if reader.take(needed * 8 - used)? != 0 {
+        return Err(refused(Refusal::SpareBitsSet, needed - 1));
+    }
+    Ok(count)
+}
+
+/// The count of a recording that is laid out as one of the kind, whose names have so many bits.
+pub fn checked_layout(bytes: &[u8], kind: u16, width: usize) -> Result<usize, LoadFault>
+    requires { ⌜ width ≤ 16 ⌝ }
+    ensures { λ r. ⌜ r ≡ laid-out kind width (now (bytes .entry)) ⌝ }
+{
+    let count = header(bytes, kind)?;
+    checked_body(bytes, width, count)
 }
