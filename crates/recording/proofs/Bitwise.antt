@@ -1,14 +1,14 @@
 -- Numbers and their bits: each gives the other back.
 use mathlib.Core.Path.{_≡_, refl, ap, sym, _∙_}
-use mathlib.Core.List.{List}
-use Prim.Native.Nat.{ℕ, zero, suc, _+_, _*_, _/_, _%_, _^_, _<_, _≤_}
+use mathlib.Core.List.{List, [], _∷_}
+use Prim.Native.Nat.{ℕ, zero, suc, _+_, _-_, _*_, _/_, _%_, _^_, _<_, _≤_}
 use native.Mathlib.Nat.{pow-suc}
 use native.Mathlib.Numerals.{add-one}
 use native.Mathlib.Omega.{arith}
 use lib.ListN.{getD, take}
 use lib.Pow.{pow-mono}
 use Rattle.std.proofs.shelf.Lists.{getD-take}
-use Rattle.recording.specs.Bits.{bit-in, bit-of, number-at}
+use Rattle.recording.specs.Bits.{bit-in, bit-of, number-at, numbers-at}
 
 pub number-none : (b : ℕ → ℕ) (i : ℕ) → 0 ≡ number-at b i 0
 unfolding number-at
@@ -39,3 +39,28 @@ bit-of-take xs m i h = let l : i / 8 < m = omega arith in rw (getD-take m xs (i 
 
 pub number-take : (xs : List ℕ) (m i n : ℕ) → i + n ≤ m * 8 → number-at (bit-of 8 (take m xs)) i n ≡ number-at (bit-of 8 xs) i n
 number-take xs m i n h = number-same (bit-of 8 (take m xs)) (bit-of 8 xs) i i n (λ k l. bit-of-take xs m (i + k) (omega arith))
+
+-- a number of n bits is below 2 ^ n
+pub number-below : (b : ℕ → ℕ) → ((k : ℕ) → b k < 2) → (i n : ℕ) → number-at b i n < 2 ^ n
+unfolding number-at
+number-below b bits i zero = omega arith
+number-below b bits i (suc n) =
+    let h = number-below b bits i n in
+    let d = bits (i + n) in
+    rw pow-suc (omega arith)
+
+pub bit-below : (w : ℕ) (xs : List ℕ) (i : ℕ) → bit-of w xs i < 2
+bit-below w xs i = omega arith
+
+-- the first of a row of numbers, and the rest
+pub numbers-more : (b : ℕ → ℕ) (w at i count : ℕ) → i < count → numbers-at b w at (count - i) ≡ number-at b at w ∷ numbers-at b w (at + w) (count - (i + 1))
+unfolding numbers-at
+numbers-more b w at i count h =
+    let e : count - i ≡ suc (count - (i + 1)) = omega arith in
+    ap (numbers-at b w at) e
+
+pub numbers-none : (b : ℕ → ℕ) (w at i count : ℕ) → count ≤ i → numbers-at b w at (count - i) ≡ []
+unfolding numbers-at
+numbers-none b w at i count h =
+    let e : count - i ≡ 0 = omega arith in
+    ap (numbers-at b w at) e

@@ -4,3 +4,4 @@ pub mod list;
 pub mod fault;
 mod reader;
 mod layout;
+pub mod decode;
