@@ -17,9 +17,9 @@ use Rattle.paging.specs.declared.refusal.Refusal.{Refusal}
 use Rattle.paging.specs.declared.refusal.Refusal.the-variants.{NoPlaceForName}
 use Rattle.recording.specs.Bits.{bit-of, number-at, numbers-at}
 use Rattle.recording.specs.Lists.{place-in, known, adds, with-name, limit-of, look-answer, held, in-list, listed, looked-up, looked-count, looked-memory}
-use Rattle.recording.specs.Coding.{coded, learnt, codes-of, names-of, names-in, coded-answer, with-records, at-place}
+use Rattle.recording.specs.Coding.{coded, learnt, codes-of, names-of, names-in, coded-answer, with-records, at-place, names-laid, names-recorded, decoded}
 use Rattle.recording.specs.declared.fault.LoadFault.{LoadFault}
-use Rattle.recording.specs.Reading.{by-names}
+use Rattle.recording.specs.Reading.{by-names, and-then, laid-out}
 use Rattle.recording.proofs.Bitwise.{number-below, bit-below, numbers-more, numbers-none}
 use Rattle.recording.proofs.Places.{length-listed}
 
@@ -242,3 +242,11 @@ module _ {X : Type 0} (f : X → ℕ) (make : ℕ → X) (w : ℕ) (bytes : List
   progress-ended =
       let all : listed f mem k ≡ names-of (limit-of (length start)) (names-in w bytes count) = sym (learnt-none (limit-of (length start)) (listed f mem k)) ∙ ap (learnt (limit-of (length start)) (listed f mem k)) (sym (numbers-none (bit-of 8 bytes) w at i count (omega arith))) ∙ so .learnt-so in
       ended f make w bytes count start mem k (so .size) (so .within) (so .memory) all
+
+-- a refused layout is the outcome, and leaves the memory as it was
+pub refused-layout : {X : Type 0} (make : ℕ → X) (kind width size : ℕ) (bytes : List ℕ) (start : List X) (k w : ℕ) (e : LoadFault) → k ≡ kind → w ≡ width → laid-out k w bytes ≡ Err e → (Err e ≡ decoded kind width size bytes) × (start ≡ with-records make (names-of (limit-of size) (names-recorded kind width bytes)) start)
+refused-layout {X} make kind width size bytes start k w e ek ew er =
+    let r : laid-out kind width bytes ≡ Err e = ap (λ (n : ℕ). laid-out n width bytes) (sym ek) ∙ ap (λ (n : ℕ). laid-out k n bytes) (sym ew) ∙ er in
+    let a : and-then (laid-out kind width bytes) (λ n. coded-answer (codes-of (limit-of size) (names-in width bytes n))) ≡ Err e = ap (λ (x : Result ℕ LoadFault). and-then x (λ n. coded-answer (codes-of (limit-of size) (names-in width bytes n)))) r in
+    let n : names-of (limit-of size) (names-recorded kind width bytes) ≡ [] = ap (λ (x : Result ℕ LoadFault). names-of (limit-of size) (names-laid width bytes x)) r ∙ learnt-none (limit-of size) [] in
+    (sym a, ap (λ (ns : List ℕ). with-records make ns start) (sym n))

@@ -4,10 +4,12 @@ ghost use Rattle.recording.specs.Bits.{bit-of, number-at};
 ghost use Rattle.recording.specs.Coding.{at-place, codes-of, coded-answer, decoded, names-in, names-of, names-recorded, with-records};
 ghost use Rattle.recording.specs.Lists.{limit-of, looked-count, looked-memory, looked-up};
 ghost use Rattle.recording.specs.Reading.{bytes-for};
+ghost use Rattle.std.specs.Results.{isOk};
 ghost use Rattle.std.specs.Vec.{made};
 ghost use Rattle.std.specs.declared.result.Result.the-variants.{Ok};
 ghost use denote.Ref.{name};
 ghost use lib.ListN.{length, take};
+ghost use mathlib.Core.Bool.{cond};
 ghost use mathlib.Core.Path.{_≡_};
 use crate::fault::{Layer, LoadFault};
 use crate::layout::checked_layout;
@@ -48,4 +50,23 @@ fn read_names<N: Name + Copy>(bytes: &[u8], count: usize, list: &mut NameList<N>
         codes[i] = next_code(&mut reader, list, i + 1)?;
     }
     Ok(count)
+}
+
+/// Decodes a recording: empties the list, looks up each name in it, and writes the codes. It answers how many.
+///
+/// After a refusal the list is empty, and the names added before it remain in the memory.
+pub fn decode<N: Name + Copy>(bytes: &[u8], list: &mut NameList<N>, codes: &mut [u8; 4096]) -> Result<usize, LoadFault>
+    ensures answer { λ r. ⌜ r ≡ decoded (N·Name .kind) (N·Name .width) (length (now (now (list .entry) .memory))) (now (bytes .entry)) ⌝ }
+    ensures codes { λ r. ⌜ made r (λ n. codes-of (limit-of (length (now (now (list .entry) .memory)))) (names-recorded (N·Name .kind) (N·Name .width) (now (bytes .entry))) ≡ Ok (take n (now (codes .exit)))) ⌝ }
+    ensures count { λ r. ⌜ now (list .exit) .count ≡ cond (isOk r) (length (names-of (limit-of (length (now (now (list .entry) .memory)))) (names-recorded (N·Name .kind) (N·Name .width) (now (bytes .entry))))) 0 ⌝ }
+    ensures memory { λ _. ⌜ now (now (list .exit) .memory) ≡ with-records (N·Name .named) (names-of (limit-of (length (now (now (list .entry) .memory)))) (names-recorded (N·Name .kind) (N·Name .width) (now (bytes .entry)))) (now (now (list .entry) .memory)) ⌝ }
+    ensures lender { λ _. ⌜ name (now (list .exit) .memory) ≡ name (now (list .entry) .memory) ⌝ }
+{
+    list.clear();
+    let count = checked_layout(bytes, N::kind_number(), N::bit_width())?;
+    let answer = read_names(bytes, count, list, codes);
+    if answer.is_err() {
+        list.clear();
+    }
+    answer
 }
