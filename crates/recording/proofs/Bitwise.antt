@@ -1,11 +1,11 @@
 -- Numbers and their bits: each gives the other back.
 use mathlib.Core.Path.{_≡_, refl, ap, sym, _∙_}
-use mathlib.Core.List.{List, [], _∷_}
+use mathlib.Core.List.{List, [], _∷_, _++_}
 use Prim.Native.Nat.{ℕ, zero, suc, _+_, _-_, _*_, _/_, _%_, _^_, _<_, _≤_}
-use native.Mathlib.Nat.{pow-suc}
+use native.Mathlib.Nat.{pow-suc, suc-mul}
 use native.Mathlib.Numerals.{add-one}
 use native.Mathlib.Omega.{arith}
-use lib.ListN.{getD, take}
+use lib.ListN.{length, getD, take}
 use lib.Pow.{pow-mono}
 use Rattle.std.proofs.shelf.Lists.{getD-take}
 use Rattle.recording.specs.Bits.{bit-in, bit-of, number-at, numbers-at}
@@ -64,3 +64,16 @@ unfolding numbers-at
 numbers-none b w at i count h =
     let e : count - i ≡ 0 = omega arith in
     ap (numbers-at b w at) e
+
+pub length-numbers : (b : ℕ → ℕ) (w i n : ℕ) → length (numbers-at b w i n) ≡ n
+unfolding numbers-at
+length-numbers b w i zero = refl
+length-numbers b w i (suc n) = ap suc (length-numbers b w (i + w) n)
+
+-- a row of numbers, one longer at its end
+pub numbers-push : (b : ℕ → ℕ) (w i n : ℕ) → numbers-at b w i (suc n) ≡ numbers-at b w i n ++ number-at b (i + n * w) w ∷ []
+unfolding numbers-at
+numbers-push b w i zero = let e : i ≡ i + 0 * w = omega arith in ap (λ (j : ℕ). number-at b j w ∷ []) e
+numbers-push b w i (suc n) =
+    let e : i + w + n * w ≡ i + suc n * w = rw (suc-mul n w) (omega arith) in
+    ap (λ (ys : List ℕ). number-at b i w ∷ ys) (numbers-push b w (i + w) n ∙ ap (λ (j : ℕ). numbers-at b w (i + w) n ++ number-at b j w ∷ []) e)

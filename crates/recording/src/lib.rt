@@ -5,3 +5,4 @@ pub mod fault;
 mod reader;
 mod layout;
 pub mod decode;
+pub mod encode;
