@@ -56,11 +56,11 @@ module _ (bytes : List ℕ) (kind v k z n : ℕ) (front : Front bytes v k z n) w
       let is2 = eqb (number-at (bit-of 8 bytes) 4 2) kind in
       let is3 = eqb (number-at (bit-of 8 bytes) 6 2) 0 in
       let last : (k ≡ kind → ⊥) ⊎ (z ≡ 0 → ⊥) → (is2 && is3) ≡ false = ⊎-elim
-          (λ a. and-left is2 is3 (ne-eqb _ _ (λ e. a (front .kind-is ∙ e))))
-          (λ a. and-right is2 is3 (ne-eqb _ _ (λ e. a (front .zeros-are ∙ e)))) in
+      (λ a. and-left is2 is3 (ne-eqb _ _ (λ e. a (front .kind-is ∙ e))))
+      (λ a. and-right is2 is3 (ne-eqb _ _ (λ e. a (front .zeros-are ∙ e)))) in
       let f : marked kind bytes ≡ false = ⊎-elim
-          (λ a. and-left is1 (is2 && is3) (ne-eqb _ _ (λ e. a (front .version-is ∙ e))))
-          (λ o. and-right is1 (is2 && is3) (last o)) wrong in
+      (λ a. and-left is1 (is2 && is3) (ne-eqb _ _ (λ e. a (front .version-is ∙ e))))
+      (λ o. and-right is1 (is2 && is3) (last o)) wrong in
       rw (long-enough, f)
 
   is-marked : v ≡ 1 → k ≡ kind → z ≡ 0 → marked kind bytes ≡ true

@@ -78,7 +78,7 @@ pub written-more : (b : ℕ → ℕ) (start out : List ℕ) (i v : ℕ) → out 
 written-more b start out i v so is h =
     let z : 0 + i * 8 ≡ i * 8 = omega arith in
     let one : numbers-at b 8 0 (i + 1) ≡ numbers-at b 8 0 i ++ v ∷ [] =
-        ap (numbers-at b 8 0) (add-one i) ∙ numbers-push b 8 0 i ∙ ap (λ (j : ℕ). numbers-at b 8 0 i ++ number-at b j 8 ∷ []) z ∙ ap (λ (x : ℕ). numbers-at b 8 0 i ++ x ∷ []) (sym is) in
+    ap (numbers-at b 8 0) (add-one i) ∙ numbers-push b 8 0 i ∙ ap (λ (j : ℕ). numbers-at b 8 0 i ++ number-at b j 8 ∷ []) z ∙ ap (λ (x : ℕ). numbers-at b 8 0 i ++ x ∷ []) (sym is) in
     ap (λ (ys : List ℕ). set ys i v) so
     ∙ set-behind (numbers-at b 8 0 i) start i v (length-numbers b 8 0 i) h
     ∙ ap (λ (ys : List ℕ). ys ++ drop (i + 1) start) (sym one)

@@ -18,8 +18,8 @@ unfoldable pub coded : ℕ → List ℕ → List ℕ → List ℕ → Result (Li
 coded limit ns cs [] = Ok cs
 coded limit ns cs (m ∷ ms) =
     cond (known ns m || ltb (length ns) limit)
-        (coded limit (with-name limit ns m) (cs ++ place-in ns m ∷ []) ms)
-        (Err (suc (length cs)))
+    (coded limit (with-name limit ns m) (cs ++ place-in ns m ∷ []) ms)
+    (Err (suc (length cs)))
 
 -- the names of the list after the names ms are looked up: the different ones in order of first appearance
 unfoldable pub learnt : ℕ → List ℕ → List ℕ → List ℕ

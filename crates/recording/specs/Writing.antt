@@ -36,8 +36,8 @@ all-named n (c ∷ cs) = ltb c n && all-named n cs
 abbrev pub encoded : ℕ → List ℕ → List ℕ → ℕ → Result ℕ Refusal
 encoded width ns cs room =
     cond (all-named (length ns) cs)
-        (cond (ltb room (bytes-for width (length cs))) (Err OutputTooShort) (Ok (bytes-for width (length cs))))
-        (Err CodeWithoutName)
+    (cond (ltb room (bytes-for width (length cs))) (Err OutputTooShort) (Ok (bytes-for width (length cs))))
+    (Err CodeWithoutName)
 
 -- the memory after n bytes of a recording are written into it, where that is not refused
 abbrev pub written : Result ℕ Refusal → List ℕ → List ℕ → List ℕ

@@ -11,14 +11,19 @@ ghost use denote.Ref.{name};
 ghost use lib.ListN.{length, take};
 ghost use mathlib.Core.Bool.{cond};
 ghost use mathlib.Core.Path.{_≡_};
-use crate::fault::{Layer, LoadFault};
+use crate::fault::Layer;
+use crate::fault::LoadFault;
 use crate::layout::checked_layout;
 use crate::list::NameList;
 use crate::names::Name;
 use crate::reader::Reader;
 
 // The code of the next name that the reader has, which is the one at the place.
-fn next_code<N: Name + Copy>(reader: &mut Reader, list: &mut NameList<N>, place: usize) -> Result<u8, LoadFault>
+fn next_code<N: Name + Copy>(
+    reader: &mut Reader,
+    list: &mut NameList<N>,
+    place: usize,
+) -> Result<u8, LoadFault>
     requires { ⌜ now reader .at + N·Name .width ≤ length (now (now reader .bytes)) * 8 ⌝ }
     ensures answer { λ r. ⌜ r ≡ at-place place (looked-up (N·Name .bits) (now (now (list .entry) .memory)) (now (list .entry) .count) (N·Name .named (number-at (bit-of 8 (now (now (reader .entry) .bytes))) (now (reader .entry) .at) (N·Name .width)))) ⌝ }
     ensures at { λ _. ⌜ now (reader .exit) .at ≡ now (reader .entry) .at + N·Name .width ⌝ }
@@ -30,12 +35,21 @@ fn next_code<N: Name + Copy>(reader: &mut Reader, list: &mut NameList<N>, place:
     let number = reader.take(N::bit_width())?;
     match list.look_up(N::from_bits(number)) {
         Ok(code) => Ok(code),
-        Err(refusal) => Err(LoadFault { refusal, layer: Layer::Names, place }),
+        Err(refusal) => Err(LoadFault {
+            refusal,
+            layer: Layer::Names,
+            place,
+        }),
     }
 }
 
 // Looks up the names of a recording that counts so many, and writes their codes: the count.
-fn read_names<N: Name + Copy>(bytes: &[u8], count: usize, list: &mut NameList<N>, codes: &mut [u8; 4096]) -> Result<usize, LoadFault>
+fn read_names<N: Name + Copy>(
+    bytes: &[u8],
+    count: usize,
+    list: &mut NameList<N>,
+    codes: &mut [u8; 4096],
+) -> Result<usize, LoadFault>
     requires most { ⌜ count ≤ 4096 ⌝ }
     requires whole { ⌜ length (now bytes) ≡ bytes-for (N·Name .width) count ⌝ }
     requires empty { ⌜ now list .count ≡ 0 ⌝ }
@@ -55,7 +69,11 @@ fn read_names<N: Name + Copy>(bytes: &[u8], count: usize, list: &mut NameList<N>
 /// Decodes a recording: empties the list, looks up each name in it, and writes the codes. It answers how many.
 ///
 /// After a refusal the list is empty, and the names added before it remain in the memory.
-pub fn decode<N: Name + Copy>(bytes: &[u8], list: &mut NameList<N>, codes: &mut [u8; 4096]) -> Result<usize, LoadFault>
+pub fn decode<N: Name + Copy>(
+    bytes: &[u8],
+    list: &mut NameList<N>,
+    codes: &mut [u8; 4096],
+) -> Result<usize, LoadFault>
     ensures answer { λ r. ⌜ r ≡ decoded (N·Name .kind) (N·Name .width) (length (now (now (list .entry) .memory))) (now (bytes .entry)) ⌝ }
     ensures codes { λ r. ⌜ made r (λ n. codes-of (limit-of (length (now (now (list .entry) .memory)))) (names-recorded (N·Name .kind) (N·Name .width) (now (bytes .entry))) ≡ Ok (take n (now (codes .exit)))) ⌝ }
     ensures count { λ r. ⌜ now (list .exit) .count ≡ cond (isOk r) (length (names-of (limit-of (length (now (now (list .entry) .memory)))) (names-recorded (N·Name .kind) (N·Name .width) (now (bytes .entry))))) 0 ⌝ }

@@ -72,7 +72,11 @@ fn write_bytes<N: Name + Copy>(names: &[N], codes: &[u8], out: &mut [u8], needed
 }
 
 /// Writes the recording of a string of at most 4,096 codes with the names of a list. It answers how many bytes it has.
-pub fn encode<N: Name + Copy>(list: &NameList<N>, codes: &[u8], out: &mut [u8]) -> Result<usize, Refusal>
+pub fn encode<N: Name + Copy>(
+    list: &NameList<N>,
+    codes: &[u8],
+    out: &mut [u8],
+) -> Result<usize, Refusal>
     requires { ⌜ length (now codes) ≤ 4096 ⌝ }
     ensures answer { λ r. ⌜ r ≡ encoded (N·Name .width) (listed (N·Name .bits) (now (now (list .entry) .memory)) (now (list .entry) .count)) (now (codes .entry)) (length (now (out .entry))) ⌝ }
     ensures out { λ r. ⌜ now (out .exit) ≡ written r (recording (N·Name .kind) (N·Name .width) (named-by (listed (N·Name .bits) (now (now (list .entry) .memory)) (now (list .entry) .count)) (now (codes .entry)))) (now (out .entry)) ⌝ }

@@ -2,7 +2,8 @@
 ghost use Prim.Native.Nat.{_≤_};
 ghost use Rattle.recording.specs.Reading.{body, by-bytes, bytes-for, head, laid-out};
 ghost use mathlib.Core.Path.{_≡_};
-use crate::fault::{Layer, LoadFault};
+use crate::fault::Layer;
+use crate::fault::LoadFault;
 use crate::reader::Reader;
 use paging::refusal::Refusal;
 
@@ -13,7 +14,11 @@ const MOST: u16 = 4096;
 fn refused(refusal: Refusal, place: usize) -> LoadFault
     ensures { λ r. ⌜ r ≡ by-bytes refusal place ⌝ }
 {
-    LoadFault { refusal, layer: Layer::Bytes, place }
+    LoadFault {
+        refusal,
+        layer: Layer::Bytes,
+        place,
+    }
 }
 
 /// The count in the first three bytes, which have to be those of a recording of the kind.
@@ -21,7 +26,10 @@ pub fn header(bytes: &[u8], kind: u16) -> Result<usize, LoadFault>
     ensures { λ r. ⌜ r ≡ head kind (now (bytes .entry)) ⌝ }
 {
     let len = bytes.len().min(3);
-    let mut reader = Reader { bytes: &bytes[0..len], at: 0 };
+    let mut reader = Reader {
+        bytes: &bytes[0..len],
+        at: 0,
+    };
     let version = reader.take(4)?;
     let own_kind = reader.take(2)?;
     let zero = reader.take(2)?;

@@ -1,8 +1,8 @@
 //! Recordings: names, name lists over provided memory, and the packed form of a row of names.
-pub mod names;
-pub mod list;
-pub mod fault;
-mod reader;
-mod layout;
 pub mod decode;
 pub mod encode;
+pub mod fault;
+mod layout;
+pub mod list;
+pub mod names;
+mod reader;

@@ -135,7 +135,10 @@ pub impl Name for TaskPage as TaskPageName {
     }
 
     fn from_bits(number: u16) -> TaskPage {
-        TaskPage { task: (number / 4096) as u8, page: number % 4096 }
+        TaskPage {
+            task: (number / 4096) as u8,
+            page: number % 4096,
+        }
     }
 
     fn bit_width() -> usize {

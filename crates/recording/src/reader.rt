@@ -5,7 +5,8 @@ ghost use Rattle.std.specs.Results.{isOk};
 ghost use lib.ListN.{length};
 ghost use mathlib.Core.Bool.{cond};
 ghost use mathlib.Core.Path.{_≡_};
-use crate::fault::{Layer, LoadFault};
+use crate::fault::Layer;
+use crate::fault::LoadFault;
 use paging::refusal::Refusal;
 
 /// Reads the bits of a row of bytes, of which it has read `at` so far.
@@ -26,7 +27,11 @@ impl Reader<'_> {
         ensures bytes { λ _. ⌜ now (now (self .exit) .bytes) ≡ now (now (self .entry) .bytes) ⌝ }
     {
         if self.at + n > self.bytes.len() * 8 {
-            return Err(LoadFault { refusal: Refusal::TooShort, layer: Layer::Bytes, place: self.bytes.len() });
+            return Err(LoadFault {
+                refusal: Refusal::TooShort,
+                layer: Layer::Bytes,
+                place: self.bytes.len(),
+            });
         }
         let mut number: u16 = 0;
         for k in 0..n {

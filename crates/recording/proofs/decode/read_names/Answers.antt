@@ -32,10 +32,11 @@ returns-in-Break-codes g c =
     rw (p .1, p .2) (record { answer = q .0; codes = tt; count = q .1 .counts; memory = q .1 .records; lender = c .next-code .ensures .lender ∙ c .loop-i .inv .2 })
 
 pub loop-i-again : need.loop-i-again
-loop-i-again g c =
-    (turn-more (g .N·Name .bits) (g .N·Name .named) (g .N·Name .width) (g .N·Name·met .back) _ _ _ _ _ _ _ _ (c .loop-i .inv .0) (c .loop-i-test .taken) _ (c .loop-i .inv .1) (c .pre .most) _ _ (c .next-code .ensures .memory) (c .next-code .ensures .count) _ _ _ (c .next-code .ensures .at) (sym (c .next-code .ensures .answer) ∙ c .in-Continue-codes .was tt) refl,
-     c .next-code .ensures .bytes ∙ c .loop-i .inv .1,
-     c .next-code .ensures .lender ∙ c .loop-i .inv .2)
+loop-i-again g c = (
+  turn-more (g .N·Name .bits) (g .N·Name .named) (g .N·Name .width) (g .N·Name·met .back) _ _ _ _ _ _ _ _ (c .loop-i .inv .0) (c .loop-i-test .taken) _ (c .loop-i .inv .1) (c .pre .most) _ _ (c .next-code .ensures .memory) (c .next-code .ensures .count) _ _ _ (c .next-code .ensures .at) (sym (c .next-code .ensures .answer) ∙ c .in-Continue-codes .was tt) refl,
+  c .next-code .ensures .bytes ∙ c .loop-i .inv .1,
+  c .next-code .ensures .lender ∙ c .loop-i .inv .2,
+)
 
 pub returns : need.returns
 returns g c =

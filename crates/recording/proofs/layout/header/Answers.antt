@@ -33,9 +33,9 @@ pub returns-then-version-ne1 : need.returns-then-version-ne1
 returns-then-version-ne1 c =
     let f = front (need.at·returns-then-version-ne1 c .In-Continue-count) in
     ap Err (c .refused .ensures) ∙ elim (c .then-version-ne1 .came) [
-      then-version-ne1·by·then-version-ne1 w ↦ head-unmarked _ (c .args .kind) _ _ _ _ f (inl (w .if-version-ne1 .taken))
-    | then-version-ne1·by·else-version-ne1·then-own-kind-kind w ↦ head-unmarked _ (c .args .kind) _ _ _ _ f (inr (inl (w .if-own-kind-kind .taken)))
-    | then-version-ne1·by·else-version-ne1·else-own-kind-kind·then-zero-ne0 w ↦ head-unmarked _ (c .args .kind) _ _ _ _ f (inr (inr (w .if-zero-ne0 .taken)))
+      | then-version-ne1·by·then-version-ne1 w ↦ head-unmarked _ (c .args .kind) _ _ _ _ f (inl (w .if-version-ne1 .taken))
+      | then-version-ne1·by·else-version-ne1·then-own-kind-kind w ↦ head-unmarked _ (c .args .kind) _ _ _ _ f (inr (inl (w .if-own-kind-kind .taken)))
+      | then-version-ne1·by·else-version-ne1·else-own-kind-kind·then-zero-ne0 w ↦ head-unmarked _ (c .args .kind) _ _ _ _ f (inr (inr (w .if-zero-ne0 .taken)))
     ]
 
 pub returns-then-count-gt-MOST : need.returns-then-count-gt-MOST
