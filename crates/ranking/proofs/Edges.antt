@@ -1,20 +1,17 @@
 -- Where a row comes within a ceiling. Assumes nothing.
 use mathlib.Core.Path.{_≡_, refl, sym, ap, _∙_}
-use mathlib.Core.Bool.{Bool, true, false, cond}
 use mathlib.Core.List.{List}
 use mathlib.Core.Logic.{_⊎_, inl, inr}
 use Prim.Native.Nat.{ℕ, zero, suc, _+_, _-_, _≤_, _<_}
 use native.Mathlib.Omega.{arith}
 use native.Mathlib.Numerals.{add-one}
-use lib.Dec.{leb}
-use lib.ListN.{length, getD}
-use Rattle.std.specs.declared.option.Option.{Option}
+use lib.ListN.{getD}
 use Rattle.std.specs.declared.option.Option.the-variants.{Some, None}
 use Rattle.std.proofs.shelf.Counted.{getD-map-counting}
 use Rattle.std.proofs.shelf.Tests.{cases-lt, le-leb, lt-leb}
 use Rattle.paging.specs.Rankings.{RankingModel, own-faults}
 use Rattle.ranking.specs.Stack.{pass-row}
-use Rattle.ranking.specs.Edges.{edge-from, edge, at-count, faults-at, Falls, Least-within, None-within, Edge-of}
+use Rattle.ranking.specs.Edges.{edge-from, edge, at-count, faults-at, Falls, Least-within, Edge-of}
 
 pub edge-none : (g : ℕ → ℕ) (ceiling f : ℕ) → edge-from g ceiling f 0 ≡ None
 unfolding edge-from

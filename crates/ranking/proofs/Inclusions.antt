@@ -1,19 +1,18 @@
 -- What f frames hold, one frame more holds too, for every ranking. Assumes nothing.
-use mathlib.Core.Path.{_≡_, refl, sym, ap, subst, _∙_}
+use mathlib.Core.Path.{_≡_, refl, sym, ap, _∙_}
 use mathlib.Core.List.{List, [], _∷_}
 use mathlib.Core.Bool.{Bool, true, false, not}
-use mathlib.Core.Logic.{_⊎_, inl, inr}
-use Prim.Native.Nat.{ℕ, zero, suc, _+_, _<_, _≤_}
+use mathlib.Core.Logic.{inl, inr}
+use Prim.Native.Nat.{ℕ, zero, suc, _≤_}
 use native.Mathlib.Omega.{arith}
 use lib.ListN.{length, take, drop, getD}
 use Rattle.std.proofs.shelf.Tests.{cases-bool, both-ways}
-use Rattle.paging.specs.Pages.{bit, Pages, nothing, has}
+use Rattle.paging.specs.Pages.{bit, Pages, has}
 use Rattle.paging.specs.Schedules.{Coded}
 use Rattle.paging.specs.Models.{held-on}
-use Rattle.paging.specs.Rankings.{RankingModel, Orders, Telling, told, told-of, capped, own, own-from}
+use Rattle.paging.specs.Rankings.{RankingModel, Orders, told-of, capped, own, own-from}
 use Rattle.paging.proofs.Sums.{total-le}
 use Rattle.ranking.specs.Stack.{restacked}
-use Rattle.ranking.specs.Edges.{faults-at, Falls}
 use Rattle.ranking.specs.Theorems.{Inclusion, Faults-fall}
 use Rattle.ranking.proofs.Lists.{apart, low, has-before}
 use Rattle.ranking.proofs.Stacks.{apart-restacked, low-restacked}

@@ -1,15 +1,15 @@
 -- Lists of different codes as sets. Assumes nothing.
 use mathlib.Core.Path.{_≡_, refl, sym, ap, subst, fun-ext, _∙_}
 use mathlib.Core.List.{List, [], _∷_, _++_}
-use mathlib.Core.Bool.{Bool, true, false, cond, not, _&&_, _||_}
-use mathlib.Core.Logic.{_⊎_, inl, inr}
+use mathlib.Core.Bool.{Bool, true, false, not, _&&_, _||_}
+use mathlib.Core.Logic.{inl, inr}
 use Prim.Native.Nat.{ℕ, zero, suc, _+_, _<_, _≤_}
 use native.Mathlib.Omega.{arith}
 use lib.ListN.{length, take, getD}
 use lib.Dec.{eqb, ltb}
 use Rattle.std.proofs.shelf.Lists.{take-take, take-all, take-more}
-use Rattle.std.proofs.shelf.Tests.{cases-eq, or-left, or-right, lt-ltb, ltb-true, eq-eqb, ne-eqb, eqb-true, or-parts, or-from, or-cases, and-parts, and-from, not-from-false, not-true, both-ways}
-use Rattle.paging.specs.Pages.{bit, total, codes, Pages, size, has}
+use Rattle.std.proofs.shelf.Tests.{cases-eq, or-left, or-right, ltb-true, eq-eqb, ne-eqb, eqb-true, or-parts, or-from, or-cases, and-parts, and-from, not-from-false, not-true, both-ways}
+use Rattle.paging.specs.Pages.{bit, total, codes, size, has}
 use Rattle.paging.proofs.Sums.{total-add, total-zero, only-one}
 
 pub eqb-self : (c : ℕ) → eqb c c ≡ true

@@ -1,22 +1,21 @@
 -- One place of a pass. Assumes nothing.
-use mathlib.Core.Path.{_≡_, refl, sym, ap, subst, _∙_}
-use mathlib.Core.List.{List, [], _∷_, _++_}
-use mathlib.Core.Bool.{Bool, true, not}
-use Prim.Native.Nat.{ℕ, zero, suc, _+_, _<_, _≤_}
+use mathlib.Core.Path.{_≡_, sym, ap, subst, _∙_}
+use mathlib.Core.List.{List, []}
+use mathlib.Core.Bool.{true, not}
+use Prim.Native.Nat.{ℕ, suc, _+_, _<_, _≤_}
 use native.Mathlib.Omega.{arith}
-use native.Mathlib.Numerals.{add-one}
 use lib.ListN.{length, take, drop, getD}
 use lib.Seq.{drop-cons}
 use Rattle.std.proofs.shelf.Lists.{take-take, drop-all}
-use Rattle.paging.specs.Pages.{bit, total, Pages, nothing, has}
+use Rattle.paging.specs.Pages.{bit, Pages, has}
 use Rattle.paging.specs.Schedules.{faults}
-use Rattle.paging.specs.Models.{PagerModel, stepping, held-on}
-use Rattle.paging.specs.Rankings.{RankingModel, Orders, Telling, telling, told, told-all, told-of, capped, next-place, tellings, OwnRun, own-step, own-held, own-from, own-faults}
+use Rattle.paging.specs.Models.{held-on}
+use Rattle.paging.specs.Rankings.{RankingModel, Orders, telling, told, told-all, told-of, capped, next-place, tellings, OwnRun, own-step, own-held, own-from}
 use Rattle.paging.proofs.Sums.{total-none, total-suc}
 use Rattle.paging.proofs.Models.{states, states-more, held-stepping}
 use Rattle.ranking.specs.Stack.{restacked}
 use Rattle.ranking.proofs.Lists.{apart, low}
-use Rattle.ranking.proofs.Stacks.{next-held, held-restacked}
+use Rattle.ranking.proofs.Stacks.{held-restacked}
 use Rattle.ranking.proofs.Places.{capped-is}
 
 abbrev pub run-state : RankingModel → ℕ → Pages → OwnRun

@@ -3,18 +3,18 @@ use mathlib.Core.Path.{_≡_, refl, sym, ap, subst, fun-ext, _∙_}
 use mathlib.Core.List.{List, [], _∷_, _++_}
 use mathlib.Core.Bool.{Bool, true, false, cond, not, _&&_, _||_}
 use mathlib.Core.Logic.{_⊎_, inl, inr}
-use Prim.Native.Nat.{ℕ, zero, suc, _+_, _<_, _≤_, min}
+use Prim.Native.Nat.{ℕ, zero, suc, _+_, _<_, _≤_}
 use native.Mathlib.Omega.{arith}
 use lib.ListN.{length, take, length-take}
 use lib.Seq.{take-nil}
-use lib.Dec.{eqb, leb, ltb}
+use lib.Dec.{eqb, ltb}
 use Rattle.std.proofs.shelf.Lists.{take-take, take-all, take-at, length-push}
-use Rattle.std.proofs.shelf.Tests.{cases-bool, cases-eq, cases-lt, and-right, lt-ltb, ltb-true, le-leb, lt-leb, eq-eqb, ne-eqb, eqb-true, or-parts, or-from, or-right, or-left, or-cases, and-parts, and-from, not-from-false, not-from-true, not-true, both-ways}
+use Rattle.std.proofs.shelf.Tests.{cases-bool, cases-eq, cases-lt, and-right, lt-ltb, ltb-true, le-leb, lt-leb, ne-eqb, eqb-true, or-parts, or-from, or-right, or-left, or-cases, and-parts, and-from, not-from-false, not-from-true, not-true, both-ways}
 use Rattle.paging.specs.Pages.{codes, Pages, size, with-page, without, has}
 use Rattle.paging.specs.Rankings.{Order, hindmost, admit}
 use Rattle.paging.proofs.Hindmost.{hindmost-only}
 use Rattle.ranking.specs.Stack.{sift, restacked}
-use Rattle.ranking.proofs.Lists.{eqb-self, eqb-flip, apart, low, low-has, has-take, apart-take, low-take, has-front, size-has}
+use Rattle.ranking.proofs.Lists.{eqb-self, eqb-flip, apart, low, low-has, apart-take, low-take, has-front, size-has}
 
 -- what is in a sifted list
 keep : (a b m : Bool) → (m ≡ true → b ≡ false) → (a || m) ≡ (a || ((b || m) && not b))

@@ -7,6 +7,7 @@ pub mod edge;
 pub mod last_reference;
 pub mod next_reference;
 pub mod pass;
+mod stack;
 #[cfg(test)]
 mod tests;
 pub mod theorems;

@@ -2,7 +2,7 @@ use mathlib.Core.Path.{_≡_, sym, ap, subst, _∙_}
 use Prim.Native.Nat.{ℕ, suc, _-_}
 use native.Mathlib.Omega.{arith}
 use native.Mathlib.Numerals.{add-one}
-use Rattle.std.specs.declared.option.Option.the-variants.{Some, None}
+use Rattle.std.specs.declared.option.Option.the-variants.{Some}
 use Rattle.ranking.specs.Edges.{edge-from, edge, at-count}
 use Rattle.ranking.proofs.Edges.{edge-none, edge-more, edge-found}
 use Rattle.ranking.proofs.edge.edge_in.Needs as need

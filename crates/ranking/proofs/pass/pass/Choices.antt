@@ -1,9 +1,10 @@
 use mathlib.Core.Path.{_≡_}
 use mathlib.Core.Bool.{true}
 use Prim.Native.Nat.{ℕ, _<_, _≤_}
-use lib.ListN.{length, take, drop, getD}
+use lib.ListN.{length, drop, getD}
 use Rattle.paging.specs.Pages.{nothing}
 use Rattle.paging.specs.Rankings.{told-all, tellings}
+use Rattle.ranking.specs.Stack.{stacked}
 use Rattle.ranking.proofs.Lists.{apart, low}
 use Rattle.ranking.proofs.Passes.{Tracked}
 use Rattle.ranking.proofs.pass.pass.Given as given
@@ -12,9 +13,8 @@ abbrev pub Inv-loop-i : given.InvT-loop-i
 Inv-loop-i g l =
     let r = g .R·Ranking .order (l .ranking) in
     let r₀ = g .R·Ranking .order (l .entry .ranking) in
-    let st = take (l .depth) (l .stack) in
+    let st = stacked (l .stack) in
     (length (l .row) ≡ 64) ×
-    (l .depth ≤ 64) ×
     (apart st ≡ true) ×
     (low st ≡ true) ×
     ((f : ℕ) → f < 64 → getD (l .row) f 0 ≤ l .i) ×
