@@ -14,7 +14,7 @@ use Rattle.paging.specs.Rankings.{RankingModel, Orders, telling, told, told-all
 use Rattle.paging.proofs.Sums.{total-none, total-suc}
 use Rattle.paging.proofs.Models.{states, states-more, held-stepping}
 use Rattle.ranking.specs.Stack.{restacked}
-use Rattle.ranking.proofs.Lists.{apart, low}
+use Rattle.paging.specs.Queues.{once, coded}
 use Rattle.ranking.proofs.Stacks.{held-restacked}
 use Rattle.ranking.proofs.Places.{capped-is}
 
@@ -27,7 +27,7 @@ run-after r f B s i = states (own-step f) (run-state r 0 B) s i
 
 -- a reference is told of, and then the frames hold the first pages of the stack again
 pub run-step : (r₀ r : RankingModel) (B : Pages) (s st : List ℕ) (i n f : ℕ) → Orders (told-of r (capped (suc n)) (getD s i 0) (drop (suc i) s)) →
-    apart st ≡ true → low st ≡ true → i < length s → run-after r₀ (suc f) B s i ≡ run-state r n (has (take (suc f) st)) →
+    once st ≡ true → coded st ≡ true → i < length s → run-after r₀ (suc f) B s i ≡ run-state r n (has (take (suc f) st)) →
     run-after r₀ (suc f) B s (suc i) ≡
     run-state (told-of r (capped (suc n)) (getD s i 0) (drop (suc i) s)) (capped (suc n))
     (has (take (suc f) (restacked (told-of r (capped (suc n)) (getD s i 0) (drop (suc i) s) []) (getD s i 0) st)))
@@ -42,7 +42,7 @@ run-step r₀ r B s st i n f orders a l h before =
     ap Held (held-restacked (r′ []) (orders []) f x st a l)
 
 -- the same where places are far below the limit
-run-more : (r₀ r r′ : RankingModel) (B : Pages) (s st : List ℕ) (i f : ℕ) → Orders r′ → apart st ≡ true → low st ≡ true →
+run-more : (r₀ r r′ : RankingModel) (B : Pages) (s st : List ℕ) (i f : ℕ) → Orders r′ → once st ≡ true → coded st ≡ true →
     i < length s → i < 65535 → r′ ≡ told r (telling (getD s i 0) (suc i) (next-place (suc i) (getD s i 0) (drop (suc i) s))) →
     run-after r₀ (suc f) B s i ≡ run-state r i (has (take (suc f) st)) →
     run-after r₀ (suc f) B s (suc i) ≡ run-state r′ (suc i) (has (take (suc f) (restacked (r′ []) (getD s i 0) st)))
@@ -71,7 +71,7 @@ pub held-then : (r₀ r : RankingModel) (B : Pages) (s st : List ℕ) (i n f : �
 held-then r₀ r B s st i n f e =
     held-stepping (own-step f) own-held (run-state r₀ 0 B) s i ∙ ap own-held e
 
-pub tracked-more : (r₀ r r′ : RankingModel) (B : Pages) (s st st′ : List ℕ) (i n n′ f : ℕ) → Orders r′ → apart st ≡ true → low st ≡ true →
+pub tracked-more : (r₀ r r′ : RankingModel) (B : Pages) (s st st′ : List ℕ) (i n n′ f : ℕ) → Orders r′ → once st ≡ true → coded st ≡ true →
     i < length s → i < 65535 → r′ ≡ told r (telling (getD s i 0) (suc i) (next-place (suc i) (getD s i 0) (drop (suc i) s))) →
     n′ ≡ n + bit (not (has (take (suc f) st) (getD s i 0))) → st′ ≡ take 64 (restacked (r′ []) (getD s i 0) st) → f < 64 →
     Tracked r₀ r B s st i n f → Tracked r₀ r′ B s st′ (suc i) n′ f

@@ -9,12 +9,15 @@ use lib.ListN.{length, take, length-take}
 use lib.Seq.{take-nil}
 use lib.Dec.{eqb, ltb}
 use Rattle.std.proofs.shelf.Lists.{take-take, take-all, take-at, length-push}
-use Rattle.std.proofs.shelf.Tests.{cases-bool, cases-eq, cases-lt, and-right, lt-ltb, ltb-true, le-leb, lt-leb, ne-eqb, eqb-true, or-parts, or-from, or-right, or-left, or-cases, and-parts, and-from, not-from-false, not-from-true, not-true, both-ways}
+use Rattle.std.proofs.shelf.Tests.{cases-bool, cases-eq, cases-lt, and-right, lt-ltb, ltb-true, ne-eqb, eqb-true, or-parts, or-from, or-right, or-left, or-cases, and-parts, and-from, not-from-false, not-from-true, not-true, both-ways}
 use Rattle.paging.specs.Pages.{codes, Pages, size, with-page, without, has}
 use Rattle.paging.specs.Rankings.{Order, hindmost, admit}
+use Rattle.paging.specs.Queues.{once, coded}
+use Rattle.paging.proofs.Queues.{size-once}
+use Rattle.paging.proofs.OwnRuns.{admit-hit, admit-room, admit-full}
 use Rattle.paging.proofs.Hindmost.{hindmost-only}
 use Rattle.ranking.specs.Stack.{sift, restacked}
-use Rattle.ranking.proofs.Lists.{eqb-self, eqb-flip, apart, low, low-has, apart-take, low-take, has-front, size-has}
+use Rattle.ranking.proofs.Lists.{eqb-self, eqb-flip, coded-has, once-take, coded-take, has-front}
 
 -- what is in a sifted list
 keep : (a b m : Bool) → (m ≡ true → b ≡ false) → (a || m) ≡ (a || ((b || m) && not b))
@@ -33,10 +36,10 @@ pass-on true false m n h = rw (h refl)
 pass-on false b m n h = refl
 
 module _ (o : ℕ → ℕ → Bool) (p : ℕ) where
-  pub has-sift : (d c : ℕ) (xs : List ℕ) → apart xs ≡ true → eqb c p ≡ false → has (sift o p c xs) d ≡ (eqb c d || (has xs d && not (eqb p d)))
+  pub has-sift : (d c : ℕ) (xs : List ℕ) → once xs ≡ true → eqb c p ≡ false → has (sift o p c xs) d ≡ (eqb c d || (has xs d && not (eqb p d)))
   has-sift d c [] a n = refl
   has-sift d c (x ∷ xs) a n =
-      let q = and-parts (not (has xs x)) (apart xs) a in
+      let q = and-parts (not (has xs x)) (once xs) a in
       elim (cases-bool (eqb x p)) [
         | inl t ↦
             (let e = eqb-true x p t in
@@ -50,32 +53,32 @@ module _ (o : ℕ → ℕ → Bool) (p : ℕ) where
             ])
       ]
 
-  pub apart-sift : (c : ℕ) (xs : List ℕ) → apart (c ∷ xs) ≡ true → eqb c p ≡ false → apart (sift o p c xs) ≡ true
-  apart-sift c [] a n = refl
-  apart-sift c (x ∷ xs) a n =
-      let q = and-parts (not (has (x ∷ xs) c)) (apart (x ∷ xs)) a in
-      let r = and-parts (not (has xs x)) (apart xs) (q .1) in
+  pub once-sift : (c : ℕ) (xs : List ℕ) → once (c ∷ xs) ≡ true → eqb c p ≡ false → once (sift o p c xs) ≡ true
+  once-sift c [] a n = refl
+  once-sift c (x ∷ xs) a n =
+      let q = and-parts (not (has (x ∷ xs) c)) (once (x ∷ xs)) a in
+      let r = and-parts (not (has xs x)) (once xs) (q .1) in
       let s = or-parts (eqb x c) (has xs c) (not-true _ (q .0)) in
       elim (cases-bool (eqb x p)) [
         | inl t ↦ (rw t (and-from _ _ (not-from-false _ (s .1)) (r .1)))
         | inr t ↦
             (elim (cases-bool (o c x)) [
-              | inl u ↦ (rw (t, u) (and-from _ _ (not-from-false _ (has-sift c x xs (r .1) t ∙ rw (s .0, s .1))) (apart-sift x xs (q .1) t)))
-              | inr u ↦ (rw (t, u) (and-from _ _ (not-from-false _ (has-sift x c xs (r .1) n ∙ rw (eqb-flip c x ∙ s .0, not-true _ (r .0)))) (apart-sift c xs (and-from _ _ (not-from-false _ (s .1)) (r .1)) n)))
+              | inl u ↦ (rw (t, u) (and-from _ _ (not-from-false _ (has-sift c x xs (r .1) t ∙ rw (s .0, s .1))) (once-sift x xs (q .1) t)))
+              | inr u ↦ (rw (t, u) (and-from _ _ (not-from-false _ (has-sift x c xs (r .1) n ∙ rw (eqb-flip c x ∙ s .0, not-true _ (r .0)))) (once-sift c xs (and-from _ _ (not-from-false _ (s .1)) (r .1)) n)))
             ])
       ]
 
-  pub low-sift : (c : ℕ) (xs : List ℕ) → low (c ∷ xs) ≡ true → low (sift o p c xs) ≡ true
-  low-sift c [] l = l
-  low-sift c (x ∷ xs) l =
-      let q = and-parts (ltb c codes) (low (x ∷ xs)) l in
-      let r = and-parts (ltb x codes) (low xs) (q .1) in
+  pub coded-sift : (c : ℕ) (xs : List ℕ) → coded (c ∷ xs) ≡ true → coded (sift o p c xs) ≡ true
+  coded-sift c [] l = l
+  coded-sift c (x ∷ xs) l =
+      let q = and-parts (ltb c codes) (coded (x ∷ xs)) l in
+      let r = and-parts (ltb x codes) (coded xs) (q .1) in
       elim (cases-bool (eqb x p)) [
         | inl t ↦ (rw t (and-from _ _ (q .0) (r .1)))
         | inr t ↦
             (elim (cases-bool (o c x)) [
-              | inl u ↦ (rw (t, u) (and-from _ _ (q .0) (low-sift x xs (q .1))))
-              | inr u ↦ (rw (t, u) (and-from _ _ (r .0) (low-sift c xs (and-from _ _ (q .0) (r .1)))))
+              | inl u ↦ (rw (t, u) (and-from _ _ (q .0) (coded-sift x xs (q .1))))
+              | inr u ↦ (rw (t, u) (and-from _ _ (r .0) (coded-sift c xs (and-from _ _ (q .0) (r .1)))))
             ])
       ]
 
@@ -154,14 +157,14 @@ module _ (o : ℕ → ℕ → Bool) (order : Order o) where
   lift d v w a b c (inr k) h = inr (order .chain d v w a b c h k)
 
   -- each other page is ahead of it
-  behind-all : (x : ℕ) (xs : List ℕ) (d : ℕ) → low (x ∷ xs) ≡ true → has (x ∷ xs) d ≡ true → (d ≡ behind o x xs) ⊎ (o d (behind o x xs) ≡ true)
+  behind-all : (x : ℕ) (xs : List ℕ) (d : ℕ) → coded (x ∷ xs) ≡ true → has (x ∷ xs) d ≡ true → (d ≡ behind o x xs) ⊎ (o d (behind o x xs) ≡ true)
   behind-all x [] d l m = inl (elim (or-cases (eqb x d) false m) [ inl e ↦ sym (eqb-true x d e) | inr e ↦ absurd (both-ways false refl e) ])
   behind-all x (y ∷ ys) d l m =
-      let q = and-parts (ltb x codes) (low (y ∷ ys)) l in
-      let r = and-parts (ltb y codes) (low ys) (q .1) in
+      let q = and-parts (ltb x codes) (coded (y ∷ ys)) l in
+      let r = and-parts (ltb y codes) (coded ys) (q .1) in
       let x< = ltb-true x codes (q .0) in
       let y< = ltb-true y codes (r .0) in
-      let xl : low (x ∷ ys) ≡ true = and-from _ _ (q .0) (r .1) in
+      let xl : coded (x ∷ ys) ≡ true = and-from _ _ (q .0) (r .1) in
       elim (cases-bool (o x y)) [
         | inl u ↦
             (let e : behind o x (y ∷ ys) ≡ behind o y ys = rw u in
@@ -169,7 +172,7 @@ module _ (o : ℕ → ℕ → Bool) (order : Order o) where
             (elim (or-cases (eqb x d) (has (y ∷ ys) d) m) [
               | inl h ↦
                   (subst (λ (z : ℕ). (z ≡ behind o y ys) ⊎ (o z (behind o y ys) ≡ true)) (eqb-true x d h)
-                  (lift x y (behind o y ys) x< y< (low-has _ (y ∷ ys) (q .1) (behind-has y ys)) (behind-all y ys y (q .1) (or-left _ _ (eqb-self y))) u))
+                  (lift x y (behind o y ys) x< y< (coded-has _ (y ∷ ys) (q .1) (behind-has y ys)) (behind-all y ys y (q .1) (or-left _ _ (eqb-self y))) u))
               | inr h ↦ behind-all y ys d (q .1) h
             ]))
         | inr u ↦
@@ -184,7 +187,7 @@ module _ (o : ℕ → ℕ → Bool) (order : Order o) where
                         (subst (λ (z : ℕ). (z ≡ behind o x ys) ⊎ (o z (behind o x ys) ≡ true)) (eqb-true y d k)
                         (elim (cases-eq x y) [
                           | inl s ↦ subst (λ (z : ℕ). (z ≡ behind o x ys) ⊎ (o z (behind o x ys) ≡ true)) s top
-                          | inr n ↦ lift y x (behind o x ys) y< x< (low-has _ (x ∷ ys) xl (behind-has x ys)) top (order .one x y x< y< n ∙ not-from-false _ u)
+                          | inr n ↦ lift y x (behind o x ys) y< x< (coded-has _ (x ∷ ys) xl (behind-has x ys)) top (order .one x y x< y< n ∙ not-from-false _ u)
                         ]))
                     | inr k ↦ behind-all x ys d xl (or-right (eqb x d) _ k)
                   ])
@@ -192,20 +195,10 @@ module _ (o : ℕ → ℕ → Bool) (order : Order o) where
       ]
 
   -- it is the page that goes
-  hindmost-behind : (x : ℕ) (xs : List ℕ) → low (x ∷ xs) ≡ true → hindmost o codes (has (x ∷ xs)) ≡ behind o x xs
+  hindmost-behind : (x : ℕ) (xs : List ℕ) → coded (x ∷ xs) ≡ true → hindmost o codes (has (x ∷ xs)) ≡ behind o x xs
   hindmost-behind x xs l =
-      hindmost-only o order (has (x ∷ xs)) (behind o x xs) (low-has _ (x ∷ xs) l (behind-has x xs)) (behind-has x xs)
+      hindmost-only o order (has (x ∷ xs)) (behind o x xs) (coded-has _ (x ∷ xs) l (behind-has x xs)) (behind-has x xs)
       (λ c _ h ne. elim (behind-all x xs c l h) [ inl e ↦ absurd (ne e) | inr k ↦ k ])
-
--- what f frames hold, by cases
-admit-hit : (f z x : ℕ) (M : Pages) → M x ≡ true → admit f z x M ≡ M
-admit-hit f z x M m = rw m
-
-admit-room : (f z x : ℕ) (M : Pages) → M x ≡ false → size M < f → admit f z x M ≡ with-page x M
-admit-room f z x M m l = rw (m, lt-leb f (size M) l)
-
-admit-full : (f z x : ℕ) (M : Pages) → M x ≡ false → f ≤ size M → admit f z x M ≡ with-page x (without z M)
-admit-full f z x M m l = rw (m, le-leb f (size M) l)
 
 hit : (a b m : Bool) → (a ≡ true → m ≡ true) → (b || m) ≡ (a || (b || (m && not a)))
 hit true true m h = refl
@@ -232,21 +225,21 @@ next-held o f c st = admit f (hindmost o codes (has (take f st))) c (has (take f
 module _ (o : ℕ → ℕ → Bool) (order : Order o) (k c : ℕ) where
   none : next-held o (suc k) c [] ≡ has (take (suc k) (c ∷ []))
   none =
-      let z : size (has []) ≡ 0 = size-has [] refl refl in
+      let z : size (has []) ≡ 0 = size-once [] refl refl in
       admit-room (suc k) _ c (has []) refl (omega arith) ∙ ap (λ (zs : List ℕ). has (c ∷ zs)) (sym (take-nil k))
 
-  module _ (x : ℕ) (xs : List ℕ) (a : apart (x ∷ xs) ≡ true) (l : low (x ∷ xs) ≡ true) where
+  module _ (x : ℕ) (xs : List ℕ) (a : once (x ∷ xs) ≡ true) (l : coded (x ∷ xs) ≡ true) where
     few : length (take k xs) ≤ k
     few = omega (arith, length-take k xs)
 
-    xya : apart (x ∷ take k xs) ≡ true
-    xya = apart-take (suc k) (x ∷ xs) a
+    xya : once (x ∷ take k xs) ≡ true
+    xya = once-take (suc k) (x ∷ xs) a
 
-    xyl : low (x ∷ take k xs) ≡ true
-    xyl = low-take (suc k) (x ∷ xs) l
+    xyl : coded (x ∷ take k xs) ≡ true
+    xyl = coded-take (suc k) (x ∷ xs) l
 
     many : size (has (x ∷ take k xs)) ≡ suc (length (take k xs))
-    many = size-has (x ∷ take k xs) xya xyl
+    many = size-once (x ∷ take k xs) xya xyl
 
     at-top : eqb x c ≡ true → next-held o (suc k) c (x ∷ xs) ≡ has (take (suc k) (restacked o c (x ∷ xs)))
     at-top t =
@@ -259,8 +252,8 @@ module _ (o : ℕ → ℕ → Bool) (order : Order o) (k c : ℕ) where
       down : take (suc k) (restacked o c (x ∷ xs)) ≡ c ∷ take k (sift o c x (take k xs))
       down = rw t (ap (λ (zs : List ℕ). c ∷ zs) (take-sift o c k x xs))
 
-      ya : apart (take k xs) ≡ true
-      ya = apart-take k xs (and-parts (not (has xs x)) (apart xs) a .1)
+      ya : once (take k xs) ≡ true
+      ya = once-take k xs (and-parts (not (has xs x)) (once xs) a .1)
 
       in-sift : (d : ℕ) → has (sift o c x (take k xs)) d ≡ (eqb x d || (has (take k xs) d && not (eqb c d)))
       in-sift d = has-sift o c d x (take k xs) ya t
@@ -303,14 +296,14 @@ module _ (o : ℕ → ℕ → Bool) (order : Order o) (k c : ℕ) where
             let all : take k (sift o c x (take k xs)) ≡ ys = ap (take k) split ∙ take-at ys (w ∷ []) k even in
             let list : take (suc k) (restacked o c (x ∷ xs)) ≡ c ∷ ys = down ∙ ap (λ (zs : List ℕ). c ∷ zs) all in
             let in-ys : (d : ℕ) → has ys d ≡ (not (eqb w d) && (eqb x d || (has (take k xs) d && not (eqb c d)))) =
-            λ d. has-front d w ys (subst (λ (zs : List ℕ). apart zs ≡ true) split (apart-sift o c x (take k xs) xya t)) ∙
+            λ d. has-front d w ys (subst (λ (zs : List ℕ). once zs ≡ true) split (once-sift o c x (take k xs) xya t)) ∙
             ap (λ (zs : List ℕ). not (eqb w d) && has zs d) (sym split) ∙ ap (λ (z : Bool). not (eqb w d) && z) (in-sift d) in
             admit-full (suc k) (hindmost o codes (has (x ∷ take k xs))) c (has (x ∷ take k xs)) out (omega (arith, many)) ∙
             ap (λ (z : ℕ). with-page c (without z (has (x ∷ take k xs)))) (hindmost-behind o order x (take k xs) xyl) ∙
             fun-ext (λ d. swept (eqb c d) (eqb x d) (has (take k xs) d) (not (eqb w d)) ∙ ap (λ (z : Bool). eqb c d || z) (sym (in-ys d)) ∙ ap (λ (zs : List ℕ). has zs d) (sym list))
 
   -- the first pages of the stack stay what the frames hold
-  pub held-restacked : (st : List ℕ) → apart st ≡ true → low st ≡ true → next-held o (suc k) c st ≡ has (take (suc k) (restacked o c st))
+  pub held-restacked : (st : List ℕ) → once st ≡ true → coded st ≡ true → next-held o (suc k) c st ≡ has (take (suc k) (restacked o c st))
   held-restacked [] a l = none
   held-restacked (x ∷ xs) a l =
       elim (cases-bool (eqb x c)) [
@@ -328,21 +321,21 @@ module _ (o : ℕ → ℕ → Bool) (order : Order o) (k c : ℕ) where
 
 module _ (o : ℕ → ℕ → Bool) (c : ℕ) where
   -- the stack keeps each code once
-  pub apart-restacked : (st : List ℕ) → apart st ≡ true → apart (restacked o c st) ≡ true
-  apart-restacked [] a = refl
-  apart-restacked (x ∷ xs) a =
-      let q = and-parts (not (has xs x)) (apart xs) a in
+  pub once-restacked : (st : List ℕ) → once st ≡ true → once (restacked o c st) ≡ true
+  once-restacked [] a = refl
+  once-restacked (x ∷ xs) a =
+      let q = and-parts (not (has xs x)) (once xs) a in
       elim (cases-bool (eqb x c)) [
-        | inl t ↦ (rw t (subst (λ (z : ℕ). apart (z ∷ xs) ≡ true) (eqb-true x c t) a))
+        | inl t ↦ (rw t (subst (λ (z : ℕ). once (z ∷ xs) ≡ true) (eqb-true x c t) a))
         | inr t ↦
             (let gone : has (sift o c x xs) c ≡ false = has-sift o c c x xs (q .1) t ∙ or-from (eqb x c) (has xs c && not (eqb c c)) t (and-right (has xs c) (not (eqb c c)) (not-from-true _ (eqb-self c))) in
-            rw t (and-from _ _ (not-from-false _ gone) (apart-sift o c x xs a t)))
+            rw t (and-from _ _ (not-from-false _ gone) (once-sift o c x xs a t)))
       ]
 
-  pub low-restacked : (st : List ℕ) → c < codes → low st ≡ true → low (restacked o c st) ≡ true
-  low-restacked [] h l = and-from _ _ (lt-ltb c codes h) refl
-  low-restacked (x ∷ xs) h l =
+  pub coded-restacked : (st : List ℕ) → c < codes → coded st ≡ true → coded (restacked o c st) ≡ true
+  coded-restacked [] h l = and-from _ _ (lt-ltb c codes h) refl
+  coded-restacked (x ∷ xs) h l =
       elim (cases-bool (eqb x c)) [
-        | inl t ↦ (rw t (and-from _ _ (lt-ltb c codes h) (and-parts (ltb x codes) (low xs) l .1)))
-        | inr t ↦ (rw t (and-from _ _ (lt-ltb c codes h) (low-sift o c x xs l)))
+        | inl t ↦ (rw t (and-from _ _ (lt-ltb c codes h) (and-parts (ltb x codes) (coded xs) l .1)))
+        | inr t ↦ (rw t (and-from _ _ (lt-ltb c codes h) (coded-sift o c x xs l)))
       ]

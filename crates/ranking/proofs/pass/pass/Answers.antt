@@ -12,8 +12,9 @@ use Rattle.paging.specs.Schedules.{faults}
 use Rattle.paging.specs.Models.{held-on}
 use Rattle.paging.specs.Rankings.{RankingModel, telling, told, told-all, tellings, next-place, own-from, own-faults}
 use Rattle.ranking.specs.Stack.{restacked, stacked}
-use Rattle.ranking.proofs.Lists.{apart, low, apart-take, low-take}
-use Rattle.ranking.proofs.Stacks.{apart-restacked, low-restacked}
+use Rattle.paging.specs.Queues.{once, coded}
+use Rattle.ranking.proofs.Lists.{once-take, coded-take}
+use Rattle.ranking.proofs.Stacks.{once-restacked, coded-restacked}
 use Rattle.ranking.proofs.Passes.{Tracked, tracked-none, tracked-more, told-more, told-end}
 use Rattle.ranking.proofs.pass.pass.Needs as need
 
@@ -28,8 +29,8 @@ loop-i-holds g c =
     let st = stacked (c .new-stack .result) in
     let none : [] ≡ st = sym (c .new-stack .ensures) in (
       refl,
-      subst (λ (zs : List ℕ). apart zs ≡ true) none refl,
-      subst (λ (zs : List ℕ). low zs ≡ true) none refl,
+      subst (λ (zs : List ℕ). once zs ≡ true) none refl,
+      subst (λ (zs : List ℕ). coded zs ≡ true) none refl,
       λ f h. subst (λ (n : ℕ). n ≤ 0) (sym (getD-replicate 64 f 0 0 h)) (omega arith),
       λ f h. subst (λ (n : ℕ). Tracked r r nothing s st 0 n f) (sym (getD-replicate 64 f 0 0 h))
           (tracked-none r nothing s st f (ap (λ (zs : List ℕ). has (take (suc f) zs)) none)),
@@ -56,8 +57,8 @@ loop-i-again g c =
     c .tell .ensures ∙ ap (λ (p : ℕ). Tell p (getD (c .next-places-after .result) i 0)) (add-one i) ∙
     ap (λ (n : ℕ). Tell (suc i) n) (c .next-places-after .ensures i (omega arith) h) in (
       c .typed .row,
-      subst (λ (zs : List ℕ). apart zs ≡ true) (sym after) (apart-take 64 (restacked (r′ []) x st) (apart-restacked (r′ []) x st (inv .1))),
-      subst (λ (zs : List ℕ). low zs ≡ true) (sym after) (low-take 64 (restacked (r′ []) x st) (low-restacked (r′ []) x st (omega (arith, c .typed .string i)) (inv .2))),
+      subst (λ (zs : List ℕ). once zs ≡ true) (sym after) (once-take 64 (restacked (r′ []) x st) (once-restacked (r′ []) x st (inv .1))),
+      subst (λ (zs : List ℕ). coded zs ≡ true) (sym after) (coded-take 64 (restacked (r′ []) x st) (coded-restacked (r′ []) x st (omega (arith, c .typed .string i)) (inv .2))),
       λ f l. omega (arith, c .charge .ensures f l, at-most (not (has (take (suc f) st) x)), inv .3 f l),
       λ f l. subst (λ (k : ℕ). Tracked r₀ r′ nothing s st′ k (getD (c .charge .last .row) f 0) f) (sym (add-one i))
           (tracked-more r₀ r r′ nothing s st st′ i (getD (c .loop-i .row) f 0) (getD (c .charge .last .row) f 0) f orders (inv .1) (inv .2) h small moves (c .charge .ensures f l) after l (inv .4 f l)),
