@@ -1,3 +1,4 @@
 pub mod Tables
 pub mod Prepaging
+pub mod Plans
 pub mod Pagers

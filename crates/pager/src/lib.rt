@@ -1,8 +1,10 @@
 //! Pagers.
 pub mod dpmin;
 pub mod fifo;
+pub mod plans;
 pub mod ranked;
 pub mod runs;
+mod sets;
 
 ghost use Prim.Native.Nat.{ℕ};
 ghost use Rattle.paging.specs.Models.{Keeps, PagerModel, served};

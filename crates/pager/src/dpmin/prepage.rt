@@ -6,8 +6,8 @@ ghost use Rattle.paging.specs.Policies.{foremost};
 ghost use Rattle.paging.specs.Schedules.{pulled};
 ghost use Rattle.paging.specs.Sets.{pages};
 ghost use lib.ListN.{length};
-ghost use mathlib.Core.Bool.{_&&_, not};
 ghost use mathlib.Core.Path.{_≡_};
+use crate::sets::lacks;
 use paging::set::PageSet;
 
 /// Collects the first different pages of the row, at most as many as there are frames. Returns where it stopped.
@@ -55,20 +55,13 @@ pub(super) fn prepage(row: &[u8], frames: u32, held: &PageSet) -> PageSet
     new
 }
 
-/// Whether the page is in one set and was not in the other.
-fn is_new(held: &PageSet, new: &PageSet, code: u8) -> bool
-    ensures { λ r. ⌜ r ≡ (pages (now (new .entry)) code && not (pages (now (held .entry)) code)) ⌝ }
-{
-    new.contains(code) && !held.contains(code)
-}
-
 /// How many pages one set has that the other had not.
 pub(super) fn count_new(held: &PageSet, new: &PageSet) -> u32
     ensures { λ r. ⌜ r ≡ pulled (pages (now (held .entry))) (pages (now (new .entry))) ⌝ }
 {
     let mut count = 0;
     for code in 0..256u32 {
-        if is_new(held, new, code as u8) {
+        if lacks(new, held, code as u8) {
             count += 1;
         }
     }

@@ -7,7 +7,7 @@ use Rattle.paging.specs.Sets.{pages}
 use Rattle.paging.proofs.Sums.{total-none}
 use Rattle.pager.proofs.Places.{total-more}
 use Rattle.pager.proofs.dpmin.prepage.count_new.Needs as need
-use Rattle.pager.proofs.dpmin.prepage.count_new.Needs.{then-is-new, else-is-new}
+use Rattle.pager.proofs.dpmin.prepage.count_new.Needs.{then-lacks, else-lacks}
 
 pub loop-code-holds : need.loop-code-holds
 loop-code-holds c = (sym (total-none (λ k. bit (pages (c .args .new .now) k && not (pages (c .args .held .now) k)))), omega arith)
@@ -15,13 +15,13 @@ loop-code-holds c = (sym (total-none (λ k. bit (pages (c .args .new .now) k && 
 pub loop-code-again : need.loop-code-again
 loop-code-again c =
     let more = total-more (c .loop-code .code) (λ k. bit (pages (c .args .new .now) k && not (pages (c .args .held .now) k))) in
-    elim (c .if-is-new .came) [
-      | then-is-new w ↦ (
-        omega (arith, w .count-is, c .loop-code .inv .0, more, ap bit (sym (c .is-new .ensures) ∙ w .if-is-new .taken)),
+    elim (c .if-lacks .came) [
+      | then-lacks w ↦ (
+        omega (arith, w .count-is, c .loop-code .inv .0, more, ap bit (sym (c .lacks .ensures) ∙ w .if-lacks .taken)),
         omega (arith, w .count-is, c .loop-code .inv .1),
       )
-      | else-is-new w ↦ (
-        omega (arith, w .count-is, c .loop-code .inv .0, more, ap bit (sym (c .is-new .ensures) ∙ w .if-is-new .left)),
+      | else-lacks w ↦ (
+        omega (arith, w .count-is, c .loop-code .inv .0, more, ap bit (sym (c .lacks .ensures) ∙ w .if-lacks .left)),
         omega (arith, w .count-is, c .loop-code .inv .1),
       )
     ]
