@@ -14,5 +14,6 @@ pub mod OwnRuns
 pub mod Told
 pub mod MinRun
 pub mod LruRun
+pub mod FifoRun
 pub mod Demands
 pub mod Least

@@ -8,8 +8,8 @@ use Rattle.paging.specs.Pages.{codes, Pages, nothing, size}
 use Rattle.paging.specs.Schedules.{Coded, Holding, Schedule-to, Schedule, Prepages-to, Prepages, pulls, releases, faults}
 use Rattle.paging.specs.Models.{PagerModel, Keeps, held-on, instants-on, pulls-on}
 use Rattle.paging.specs.Rankings.{RankingModel, Orders, told-all, tellings, own-from, own, own-faults}
-use Rattle.paging.specs.declared.policy.Policy.the-variants.{Lru, Min, Dpmin}
-use Rattle.paging.specs.Policies.{dpmin, schedule, instants, pulls-of, Demand, Furthest, Oldest, Behind}
+use Rattle.paging.specs.declared.policy.Policy.the-variants.{Lru, Min, Dpmin, Fifo}
+use Rattle.paging.specs.Policies.{dpmin, fifo, schedule, instants, pulls-of, Demand, Furthest, Oldest, Longest-held, Behind}
 
 -- a pager that keeps its laws makes a schedule, and pulls only at its fault instants
 abbrev pub Pagers-schedule : Type 0
@@ -54,6 +54,10 @@ Dpmin-keeps = (f : ℕ) (B : Pages) → 1 ≤ f → f ≤ 64 → size B ≤ f �
 abbrev pub Own-keeps : Type 0
 Own-keeps = (r : RankingModel) (f : ℕ) (B : Pages) → 1 ≤ f → f ≤ 64 → size B ≤ f → Keeps f (own-from r f B)
 
+-- and so does FIFO, from any queue that fits its frames
+abbrev pub Fifo-keeps : Type 0
+Fifo-keeps = (f : ℕ) → 1 ≤ f → f ≤ 64 → (q : List ℕ) → length q ≤ f → Keeps f (fifo f q)
+
 -- the own run of every ranking pulls at faults only, and releases the held page that is behind all others once the ranking is told
 abbrev pub Own-releases-hindmost : Type 0
 Own-releases-hindmost =
@@ -71,6 +75,11 @@ abbrev pub Lru-releases-oldest : Type 0
 Lru-releases-oldest =
     (f : ℕ) (s : List ℕ) → Coded s → length s ≤ 4096 → 1 ≤ f →
     Demand (Oldest s (schedule Lru f s)) f s (schedule Lru f s)
+
+-- FIFO pulls at faults only, and the page that it releases is the one whose latest pull is longest ago
+abbrev pub Fifo-releases-longest-held : Type 0
+Fifo-releases-longest-held =
+    (f : ℕ) (s : List ℕ) → Coded s → 1 ≤ f → Demand (Longest-held s (schedule Fifo f s)) f s (schedule Fifo f s)
 
 -- the own run of every ranking, and so LRU and MIN, pulls as many pages as it has fault instants
 abbrev pub Own-pulls-at-faults : Type 0
