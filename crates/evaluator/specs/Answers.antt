@@ -15,9 +15,10 @@ use Rattle.paging.specs.declared.refusal.Refusal.{Refusal}
 use Rattle.paging.specs.declared.refusal.Refusal.the-variants.{UnknownLetter, BadFrameCount, PolicyWithoutEdge, NoFrameCountWithin, PagerHoldsPages, OutputTooShort}
 use Rattle.paging.specs.Frames.{is-frames}
 use Rattle.paging.specs.Pages.{size}
-use Rattle.paging.specs.Models.{PagerModel, after, instants-on, pulls-on}
+use Rattle.paging.specs.Models.{PagerModel, after, held-on, instants-on, pulls-on}
 use Rattle.paging.specs.Rankings.{RankingModel, told-all, tellings}
-use Rattle.paging.specs.Policies.{instants, pulls-of}
+use Rattle.paging.specs.Policies.{model, instants, pulls-of}
+use Rattle.pager.specs.Plans.{plan-words}
 use Rattle.ranking.specs.Edges.{edge, faults-at}
 use Rattle.ranking.specs.Stack.{pass-row}
 
@@ -81,6 +82,25 @@ written words out = cond (leb (length words) (length out)) (words ++ drop (lengt
 -- the answer of a call that writes: how many words there are, if they fit
 abbrev pub write-answer : ℕ → List ℕ → Result ℕ Refusal
 write-answer n out = cond (leb n (length out)) (Ok n) (Err OutputTooShort)
+
+-- the plan of a pager, and of a policy: the words of its moves over the whole string
+abbrev pub model-plan : PagerModel → List ℕ → List ℕ
+model-plan b s = plan-words (held-on b s) (length s)
+
+abbrev pub plan-of : Policy → ℕ → List ℕ → List ℕ
+plan-of p f s = model-plan (model p f) s
+
+-- plan: how many words there are
+abbrev pub plan-answer : ℕ → ℕ → List ℕ → List ℕ → Result ℕ Refusal
+plan-answer l f s out = by-policy l f (λ p. write-answer (length (plan-of p f s)) out)
+
+-- the memory after a plan: the words, with the rest as it was, or nothing where the call was refused
+abbrev pub planned : ℕ → List ℕ → List ℕ → Result Policy Refusal → List ℕ
+planned f s out (Ok p) = cond (is-frames f) (written (plan-of p f s) out) out
+planned f s out (Err e) = out
+
+abbrev pub plan-writes : ℕ → ℕ → List ℕ → List ℕ → List ℕ
+plan-writes l f s out = planned f s out (policy-of l)
 
 -- the ranking after a pass: told the whole string, or as it was where the row does not fit
 abbrev pub pass-leaves : RankingModel → List ℕ → List ℕ → RankingModel

@@ -5,6 +5,7 @@ pub mod edges;
 pub mod figures;
 pub mod letters;
 pub mod pages;
+pub mod plans;
 pub mod recordings;
 pub mod runs;
 pub mod string;

@@ -2,14 +2,17 @@
 ghost use Rattle.evaluator.specs.Histories.{after-call, load};
 ghost use Rattle.evaluator.specs.Strings.{string};
 ghost use Rattle.recording.specs.Coding.{decoded, names-of, names-recorded, with-records};
-ghost use Rattle.recording.specs.Lists.{limit-of};
+ghost use Rattle.recording.specs.Lists.{limit-of, listed};
+ghost use Rattle.recording.specs.Writing.{encoded, named-by, recording, written};
 ghost use Rattle.std.specs.Results.{isOk};
 ghost use denote.Ref.{name};
 ghost use lib.ListN.{length};
 ghost use mathlib.Core.Bool.{cond};
 ghost use mathlib.Core.Path.{_≡_};
 use crate::Trial;
+use paging::refusal::Refusal;
 use recording::decode::decode;
+use recording::encode::encode;
 use recording::fault::LoadFault;
 use recording::list::NameList;
 use recording::names::Name;
@@ -33,5 +36,17 @@ impl Trial {
         let count = decode(bytes, list, &mut self.codes)?;
         self.len = count;
         Ok(count)
+    }
+
+    /// Writes the recording of the string with the names of the list. Returns the number of bytes.
+    pub fn store<N: Name + Copy>(
+        &self,
+        list: &NameList<N>,
+        out: &mut [u8],
+    ) -> Result<usize, Refusal>
+        ensures answer { λ r. ⌜ r ≡ encoded (N·Name .width) (listed (N·Name .bits) (now (now (list .entry) .memory)) (now (list .entry) .count)) (string (now (self .entry))) (length (now (out .entry))) ⌝ }
+        ensures out { λ r. ⌜ now (out .exit) ≡ written r (recording (N·Name .kind) (N·Name .width) (named-by (listed (N·Name .bits) (now (now (list .entry) .memory)) (now (list .entry) .count)) (string (now (self .entry))))) (now (out .entry)) ⌝ }
+    {
+        encode(list, self.codes(), out)
     }
 }

@@ -95,7 +95,7 @@ module _ (b m m′ : PagerModel) (s : List ℕ) (t : ℕ) (here : t < length s) 
       plan-room kept =
           let i : t + 1 + (length s - (t + 1)) ≡ length s = omega arith in
           let g : length (plan-words (held-on b s) (t + 1)) ≤ length (plan-words (held-on b s) (length s)) =
-              rw i at (plan-grow (held-on b s) (t + 1) (length s - (t + 1))) in
+          rw i at (plan-grow (held-on b s) (t + 1) (length s - (t + 1))) in
           omega (arith, ap length on, length-append (plan-words (held-on b s) t) (moves (t + 1) (m []) (m′ [])), ap length same-moves)
 
       pub plan-count : n + length (moves (t + 1) M N) ≡ length (plan-words (held-on b s) (t + 1))
@@ -105,7 +105,7 @@ module _ (b m m′ : PagerModel) (s : List ℕ) (t : ℕ) (here : t < length s) 
       plan-wrote =
           let i : t + 1 + (length s - (t + 1)) ≡ length s = omega arith in
           let g : length (plan-words (held-on b s) (t + 1)) ≤ length (plan-words (held-on b s) (length s)) =
-              rw i at (plan-grow (held-on b s) (t + 1) (length s - (t + 1))) in
+          rw i at (plan-grow (held-on b s) (t + 1) (length s - (t + 1))) in
           ap (λ (r : List ℕ). written r n (moves (t + 1) M N)) wrote ∙
           ap (λ (k : ℕ). written (written old 0 (plan-words (held-on b s) t)) k (moves (t + 1) M N)) (count ∙ sym (zero-add (length (plan-words (held-on b s) t)))) ∙
           written-both old 0 (plan-words (held-on b s) t) (moves (t + 1) M N)

@@ -48,8 +48,13 @@ kinds-words p j k P (suc n) lj ln =
 
 kinds-moves : (p k : ℕ) (M N : Pages) → kinds k (moves p M N) ≡ cond (eqb 0 k) (pulled N M) 0 + cond (eqb 1 k) (pulled M N) 0
 kinds-moves p k M N =
-    rw (kinds-append k (words p 0 (less M N) codes) (words p 1 (less N M) codes), kinds-words p 0 k (less M N) codes (omega arith) (omega arith), kinds-words p 1 k (less N M) codes (omega arith) (omega arith),
-      words-long p 0 (less M N) codes, words-long p 1 (less N M) codes)
+    rw (
+      kinds-append k (words p 0 (less M N) codes) (words p 1 (less N M) codes),
+      kinds-words p 0 k (less M N) codes (omega arith) (omega arith),
+      kinds-words p 1 k (less N M) codes (omega arith) (omega arith),
+      words-long p 0 (less M N) codes,
+      words-long p 1 (less N M) codes,
+    )
 
 plan-pulls : (H : Holding) (p : ℕ) → kinds 1 (plan-words H p) ≡ pulls H p
 unfolding plan-words kinds

@@ -13,6 +13,7 @@ use crate::sets::lacks;
 use paging::set::PageSet;
 
 const RELEASE: u32 = 0;
+
 const PULL: u32 = 1;
 
 /// A move as a word: from the top 13 bits of place, one of kind, 8 of code, and ten zero bits.
@@ -37,7 +38,14 @@ fn snapshot<P: Pager>(pager: &P) -> PageSet
 }
 
 /// Writes a word for each page of one set that is not in the other. Returns where the next word goes.
-fn write_words(place: u32, kind: u32, one: &PageSet, other: &PageSet, out: &mut [u32], from: usize) -> usize
+fn write_words(
+    place: u32,
+    kind: u32,
+    one: &PageSet,
+    other: &PageSet,
+    out: &mut [u32],
+    from: usize,
+) -> usize
     requires bits { ⌜ (place < 8192) × (kind < 2) ⌝ }
     requires fits { ⌜ from + length (words place kind (less (pages (now one)) (pages (now other))) codes) ≤ length (now out) ⌝ }
     ensures count { λ r. ⌜ r ≡ from + length (words place kind (less (pages (now (one .entry))) (pages (now (other .entry)))) codes) ⌝ }

@@ -29,11 +29,10 @@ rising-rest k (x ∷ q) r = r .1
 
 rising-same : (k h : ℕ → ℕ) (q : List ℕ) → ((c : ℕ) → has q c ≡ true → h c ≡ k c) → Rising k q → Rising h q
 rising-same k h [] e r = r
-rising-same k h (x ∷ q) e r =
-    (
-      λ c m. omega (arith, r .0 c m, e x (rw (eq-eqb x x refl)), e c (rw m (right (eqb x c)))),
-      rising-same k h q (λ c m. e c (rw m (right (eqb x c)))) (r .1),
-    )
+rising-same k h (x ∷ q) e r = (
+  λ c m. omega (arith, r .0 c m, e x (rw (eq-eqb x x refl)), e c (rw m (right (eqb x c)))),
+  rising-same k h q (λ c m. e c (rw m (right (eqb x c)))) (r .1),
+)
   where
     right : (b : Bool) → (b || true) ≡ true
     right true = refl
@@ -41,11 +40,10 @@ rising-same k h (x ∷ q) e r =
 
 rising-push : (k : ℕ → ℕ) (q : List ℕ) (x : ℕ) → ((c : ℕ) → has q c ≡ true → k c < k x) → Rising k q → Rising k (q ++ x ∷ [])
 rising-push k [] x above r = (λ c m. absurd (both-ways false refl m), r)
-rising-push k (y ∷ q) x above r =
-    (
-      λ c m. pick c (or-cases (eqb x c) (has q c) (sym (ap (λ (N : Pages). N c) (has-push q x)) ∙ m)),
-      rising-push k q x (λ c m. above c (rw m (right (eqb y c)))) (r .1),
-    )
+rising-push k (y ∷ q) x above r = (
+  λ c m. pick c (or-cases (eqb x c) (has q c) (sym (ap (λ (N : Pages). N c) (has-push q x)) ∙ m)),
+  rising-push k q x (λ c m. above c (rw m (right (eqb y c)))) (r .1),
+)
   where
     right : (b : Bool) → (b || true) ≡ true
     right true = refl

@@ -17,8 +17,7 @@ use Rattle.pager.proofs.plans.plan.Needs.{then-pulls-gt0, else-pulls-gt0·else
 
 pub loop-place-holds : need.loop-place-holds
 loop-place-holds g c =
-    let e = plan-none (held-on (g .P·Pager .holding (c .args .pager .now)) (c .args .string .now)) in
-    (
+    let e = plan-none (held-on (g .P·Pager .holding (c .args .pager .now)) (c .args .string .now)) in (
       refl,
       c .snapshot-before .ensures,
       sym (ap length e),
@@ -52,31 +51,29 @@ loop-place-again g c =
     let next = after-step b m m′ s t (c .loop-place-test .taken) (inv .0) (c .serve-pulls .ensures .moves) in
     let room = c .serve-pulls .ensures .frames ∙ inv .4 in
     elim (c .if-pulls-gt0 .came) [
-      then-pulls-gt0 w ↦
-        (
-          next,
-          ap pages (w .before-is) ∙ w .snapshot-now .ensures,
-          w .count-is ∙ w .write-moves-count .ensures .count ∙
-          plan-count b m m′ s t (c .loop-place-test .taken) (inv .0) (c .serve-pulls .ensures .moves)
-          old (c .loop-place .out) (c .loop-place .count) (c .pre .fits) (inv .2) (inv .3)
-          (pages (c .loop-place .before)) (pages (w .snapshot-now .result)) (inv .1) (w .snapshot-now .ensures),
-          w .out-is ∙ w .write-moves-count .ensures .wrote ∙
-          plan-wrote b m m′ s t (c .loop-place-test .taken) (inv .0) (c .serve-pulls .ensures .moves)
-          old (c .loop-place .out) (c .loop-place .count) (c .pre .fits) (inv .2) (inv .3)
-          (pages (c .loop-place .before)) (pages (w .snapshot-now .result)) (inv .1) (w .snapshot-now .ensures),
-          room,
-        )
-    | else-pulls-gt0·else-held-were w ↦
-        let none : pulled (m []) (m′ []) ≡ 0 = sym (c .serve-pulls .ensures .answer) ∙ omega (arith, w .if-pulls-gt0 .left) in
-        let same : size (m′ []) ≡ size (m []) =
-            sym (c .held-count-held .ensures) ∙ w .if-held-were .left ∙ c .len-were .ensures ∙ ap size (inv .1) ∙ clip-size (m []) in
-        let still = plan-still b m m′ s t (c .loop-place-test .taken) (inv .0) (c .serve-pulls .ensures .moves)
-            old (c .loop-place .out) (c .loop-place .count) (c .pre .fits) (inv .2) (inv .3) none same in
-        (
-          next,
-          ap pages (w .before-is) ∙ inv .1 ∙ clip-same (m []) (m′ []) (nothing-moved (m []) (m′ []) none same),
-          w .count-is ∙ inv .2 ∙ ap length (sym still),
-          w .out-is ∙ inv .3 ∙ ap (written old 0) (sym still),
-          room,
-        )
+      | then-pulls-gt0 w ↦ (
+        next,
+        ap pages (w .before-is) ∙ w .snapshot-now .ensures,
+        w .count-is ∙ w .write-moves-count .ensures .count ∙
+            plan-count b m m′ s t (c .loop-place-test .taken) (inv .0) (c .serve-pulls .ensures .moves)
+            old (c .loop-place .out) (c .loop-place .count) (c .pre .fits) (inv .2) (inv .3)
+            (pages (c .loop-place .before)) (pages (w .snapshot-now .result)) (inv .1) (w .snapshot-now .ensures),
+        w .out-is ∙ w .write-moves-count .ensures .wrote ∙
+            plan-wrote b m m′ s t (c .loop-place-test .taken) (inv .0) (c .serve-pulls .ensures .moves)
+            old (c .loop-place .out) (c .loop-place .count) (c .pre .fits) (inv .2) (inv .3)
+            (pages (c .loop-place .before)) (pages (w .snapshot-now .result)) (inv .1) (w .snapshot-now .ensures),
+        room,
+      )
+      | else-pulls-gt0·else-held-were w ↦
+          let none : pulled (m []) (m′ []) ≡ 0 = sym (c .serve-pulls .ensures .answer) ∙ omega (arith, w .if-pulls-gt0 .left) in
+          let same : size (m′ []) ≡ size (m []) =
+          sym (c .held-count-held .ensures) ∙ w .if-held-were .left ∙ c .len-were .ensures ∙ ap size (inv .1) ∙ clip-size (m []) in
+          let still = plan-still b m m′ s t (c .loop-place-test .taken) (inv .0) (c .serve-pulls .ensures .moves)
+          old (c .loop-place .out) (c .loop-place .count) (c .pre .fits) (inv .2) (inv .3) none same in (
+            next,
+            ap pages (w .before-is) ∙ inv .1 ∙ clip-same (m []) (m′ []) (nothing-moved (m []) (m′ []) none same),
+            w .count-is ∙ inv .2 ∙ ap length (sym still),
+            w .out-is ∙ inv .3 ∙ ap (written old 0) (sym still),
+            room,
+          )
     ]

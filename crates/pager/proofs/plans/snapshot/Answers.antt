@@ -15,6 +15,6 @@ loop-code-again g c =
     let M = g .P·Pager .holding (c .args .pager .now) [] in
     let n = c .loop-code .code in
     elim (c .if-holds .came) [
-      then-holds w ↦ ap pages (w .held-is) ∙ w .insert .ensures ∙ ap (with-page n) (c .loop-code .inv) ∙ filled-yes nothing M n (sym (c .holds .ensures) ∙ w .if-holds .taken)
-    | else-holds w ↦ ap pages (w .held-is) ∙ c .loop-code .inv ∙ filled-no nothing M n (sym (c .holds .ensures) ∙ w .if-holds .left)
+      | then-holds w ↦ ap pages (w .held-is) ∙ w .insert .ensures ∙ ap (with-page n) (c .loop-code .inv) ∙ filled-yes nothing M n (sym (c .holds .ensures) ∙ w .if-holds .taken)
+      | else-holds w ↦ ap pages (w .held-is) ∙ c .loop-code .inv ∙ filled-no nothing M n (sym (c .holds .ensures) ∙ w .if-holds .left)
     ]

@@ -15,8 +15,7 @@ use Rattle.pager.proofs.plans.write_words.Needs.{then-lacks, else-lacks}
 pub loop-code-holds : need.loop-code-holds
 loop-code-holds c =
     let P = less (pages (c .args .one .now)) (pages (c .args .other .now)) in
-    let e = words-none (c .args .place) (c .args .kind) P in
-    (
+    let e = words-none (c .args .place) (c .args .kind) P in (
       omega (arith, ap length e),
       sym (ap (written (c .args .out .now) (c .args .from)) e ∙ written-none (c .args .out .now) (c .args .from) (omega (arith, c .pre .fits))),
     )
@@ -54,22 +53,22 @@ loop-code-again c =
     let old = c .args .out .now in
     let from = c .args .from in
     elim (c .if-lacks .came) [
-      then-lacks w ↦
-        let here = sym (c .lacks .ensures) ∙ w .if-lacks .taken in
-        let more = words-yes p k P n here in
-        let long : c .loop-code .next ≡ from + length (words p k P n) = c .loop-code .inv .0 in
-        simp (w .next-is, w .out-is) (
-          omega (arith, ap length more, length-append (words p k P n) (word p k n ∷ [])),
-          ap (λ (v : ℕ). set (c .loop-code .out) (c .loop-code .next) v) (w .word .ensures) ∙
-          ap (λ (r : List ℕ). set r (c .loop-code .next) (word p k n)) (c .loop-code .inv .1) ∙
-          ap (λ (m : ℕ). set (written old from (words p k P n)) m (word p k n)) long ∙
-          written-more old from (words p k P n) (word p k n) (omega (arith, c .pre .fits, words-room p k P n codes (c .loop-code-test .taken) here)) ∙
-          ap (written old from) (sym more),
-        )
-    | else-lacks w ↦
-        let more = words-no p k P n (sym (c .lacks .ensures) ∙ w .if-lacks .left) in
-        simp (w .next-is, w .out-is) (
-          omega (arith, ap length more, c .loop-code .inv .0),
-          c .loop-code .inv .1 ∙ ap (written old from) (sym more),
-        )
+      | then-lacks w ↦
+          let here = sym (c .lacks .ensures) ∙ w .if-lacks .taken in
+          let more = words-yes p k P n here in
+          let long : c .loop-code .next ≡ from + length (words p k P n) = c .loop-code .inv .0 in
+          simp (w .next-is, w .out-is) (
+            omega (arith, ap length more, length-append (words p k P n) (word p k n ∷ [])),
+            ap (λ (v : ℕ). set (c .loop-code .out) (c .loop-code .next) v) (w .word .ensures) ∙
+                ap (λ (r : List ℕ). set r (c .loop-code .next) (word p k n)) (c .loop-code .inv .1) ∙
+                ap (λ (m : ℕ). set (written old from (words p k P n)) m (word p k n)) long ∙
+                written-more old from (words p k P n) (word p k n) (omega (arith, c .pre .fits, words-room p k P n codes (c .loop-code-test .taken) here)) ∙
+                ap (written old from) (sym more),
+          )
+      | else-lacks w ↦
+          let more = words-no p k P n (sym (c .lacks .ensures) ∙ w .if-lacks .left) in
+          simp (w .next-is, w .out-is) (
+            omega (arith, ap length more, c .loop-code .inv .0),
+            c .loop-code .inv .1 ∙ ap (written old from) (sym more),
+          )
     ]
