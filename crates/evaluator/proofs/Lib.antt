@@ -1,3 +1,4 @@
 pub mod Windows
 pub mod ByLetter
 pub mod Loads
+pub mod Guaranteed

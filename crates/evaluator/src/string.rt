@@ -1,5 +1,7 @@
 //! The calls that change a trial's string.
-ghost use Rattle.evaluator.specs.Strings.{put-answer, put-string, string, take-answer, take-string};
+ghost use Rattle.evaluator.specs.Guarantee.{Guarantee};
+ghost use Rattle.evaluator.specs.Histories.{after-call, clear, put, take-back};
+ghost use Rattle.evaluator.specs.Strings.{put-answer, string, take-answer};
 ghost use lib.ListN.{length};
 ghost use mathlib.Core.List.{[]};
 ghost use mathlib.Core.Path.{_≡_};
@@ -9,8 +11,12 @@ use paging::refusal::Refusal;
 
 impl Trial {
     /// A trial with an empty string.
+    ///
+    /// Whatever puts, take-backs, clears and loads are then made on it, refused ones included, the guarantee holds of its string: no
+    /// schedule and no pager does better than figures tell, and passes and edges of every ranking are exact.
     pub fn new() -> Trial
-        ensures { λ r. ⌜ string r ≡ [] ⌝ }
+        ensures string { λ r. ⌜ string r ≡ [] ⌝ }
+        ensures guarantee { λ _. ⌜ Guarantee ⌝ }
     {
         Trial {
             codes: [0; 4096],
@@ -35,7 +41,7 @@ impl Trial {
 
     /// Adds a code at the end of the string, which has less than 4,096. Returns the new length.
     pub fn put(&mut self, code: u8) -> Result<usize, Refusal>
-        ensures string { λ _. ⌜ string (now (self .exit)) ≡ put-string (string (now (self .entry))) code ⌝ }
+        ensures string { λ _. ⌜ string (now (self .exit)) ≡ after-call (string (now (self .entry))) (put code) ⌝ }
         ensures answer { λ r. ⌜ r ≡ put-answer (string (now (self .entry))) ⌝ }
     {
         if self.len >= 4096 {
@@ -48,7 +54,7 @@ impl Trial {
 
     /// Removes the last k codes, of which there are as many. Returns the new length.
     pub fn take_back(&mut self, k: usize) -> Result<usize, Refusal>
-        ensures string { λ _. ⌜ string (now (self .exit)) ≡ take-string (string (now (self .entry))) k ⌝ }
+        ensures string { λ _. ⌜ string (now (self .exit)) ≡ after-call (string (now (self .entry))) (take-back k) ⌝ }
         ensures answer { λ r. ⌜ r ≡ take-answer (string (now (self .entry))) k ⌝ }
     {
         if k > self.len {
@@ -60,7 +66,7 @@ impl Trial {
 
     /// Empties the string. Returns the new length, 0.
     pub fn clear(&mut self) -> usize
-        ensures string { λ _. ⌜ string (now (self .exit)) ≡ [] ⌝ }
+        ensures string { λ _. ⌜ string (now (self .exit)) ≡ after-call (string (now (self .entry))) clear ⌝ }
         ensures answer { λ r. ⌜ r ≡ 0 ⌝ }
     {
         self.len = 0;
