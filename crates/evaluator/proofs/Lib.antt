@@ -2,3 +2,4 @@ pub mod Windows
 pub mod ByLetter
 pub mod Loads
 pub mod Guaranteed
+pub mod Worked

@@ -9,6 +9,7 @@ pub mod plans;
 pub mod recordings;
 pub mod runs;
 pub mod string;
+pub mod theorems;
 pub mod working;
 
 /// A string of 0 to 4,096 page references, by their codes.
