@@ -3,7 +3,7 @@ use mathlib.Core.Path.{_≡_, refl, ap, sym, _∙_}
 use mathlib.Core.Bool.{Bool, true, false, not, _&&_, _||_, cond}
 use mathlib.Core.List.{List, [], _∷_, _++_}
 use mathlib.Core.Logic.{_⊎_, inl, inr}
-use Prim.Native.Nat.{ℕ, zero, suc, _+_, _≤_, _<_}
+use Prim.Native.Nat.{ℕ, zero, suc, _+_, _*_, _≤_, _<_}
 use native.Mathlib.Numerals.{add-one}
 use native.Mathlib.Omega.{arith}
 use lib.Dec.{eqb, leb, ltb}
@@ -14,6 +14,7 @@ use Rattle.paging.specs.Pages.{bit, total, codes, Pages, with-page, without}
 use Rattle.paging.specs.Schedules.{Holding, pulled, pulls, releases}
 use Rattle.paging.proofs.Sums.{total-none, total-suc}
 use Rattle.pager.specs.Plans.{word, place-of, kind-of, code-in, less, words, moves, plan-words, kinds, replayed, Plans-tell}
+use Rattle.pager.proofs.Places.{pulled-most}
 use Rattle.pager.proofs.Words.{words-long}
 
 -- a word is taken apart again
@@ -191,3 +192,11 @@ plan-holds H (suc p) t c l lc = go (cases-lt t (suc p)) (plan-holds H p t c)
 pub plans-tell : Plans-tell
 plans-tell H p =
     record { pulling = plan-pulls H p; releasing = plan-releases H p; all = plan-long H p; holds = λ t c l lc. plan-holds H p t c l lc }
+
+-- at each place every code moves at most once each way
+pub plan-most : (H : Holding) (p : ℕ) → length (plan-words H p) ≤ 512 * p
+plan-most H p = omega (arith, plan-long H p, sum p (λ t. pulled (H t) (H (suc t))) (λ t. pulled-most (H t) (H (suc t))), sum p (λ t. pulled (H (suc t)) (H t)) (λ t. pulled-most (H (suc t)) (H t)))
+  where
+    sum : (n : ℕ) (g : ℕ → ℕ) → ((t : ℕ) → g t ≤ 256) → total n g ≤ 256 * n
+    sum zero g e = omega (arith, total-none g)
+    sum (suc n) g e = omega (arith, total-suc n g, sum n g e, e n)

@@ -5,6 +5,8 @@ pub mod plans;
 pub mod ranked;
 pub mod runs;
 mod sets;
+#[cfg(test)]
+mod tests;
 
 ghost use Prim.Native.Nat.{ℕ};
 ghost use Rattle.paging.specs.Models.{Keeps, PagerModel, served};
