@@ -6,6 +6,7 @@ ghost use lib.ListN.{length};
 ghost use mathlib.Core.Path.{_≡_};
 
 mod change;
+mod read;
 
 /// A set of pages, with the number of its pages.
 #[derive(Clone, Copy)]

@@ -96,11 +96,10 @@ pub impl Pager for FifoPager as FifoRule {
         if row.len() == 0 {
             return 0;
         }
-        let code = row[0];
-        if self.has(code) {
+        if self.has(row[0]) {
             return 0;
         }
-        self.pull(code);
+        self.pull(row[0]);
         1
     }
 }

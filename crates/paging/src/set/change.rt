@@ -1,5 +1,5 @@
-//! What a set of pages has, and how it changes.
-ghost use Rattle.paging.specs.Pages.{nothing, size, with-page, without};
+//! How a set of pages is made and changes.
+ghost use Rattle.paging.specs.Pages.{nothing, with-page, without};
 ghost use Rattle.paging.specs.Sets.{pages};
 ghost use mathlib.Core.Path.{_≡_};
 use super::PageSet;
@@ -13,20 +13,6 @@ impl PageSet {
             held: [false; 256],
             count: 0,
         }
-    }
-
-    /// How many pages the set has.
-    pub fn len(&self) -> u32
-        ensures { λ r. ⌜ r ≡ size (pages (now (self .entry))) ⌝ }
-    {
-        self.count
-    }
-
-    /// Whether the set has the page.
-    pub fn contains(&self, code: u8) -> bool
-        ensures { λ r. ⌜ r ≡ pages (now (self .entry)) code ⌝ }
-    {
-        self.held[code as usize]
     }
 
     /// Puts the page in.
