@@ -40,7 +40,7 @@ named-below n [] t i h = absurd (omega arith)
 named-below n (c ∷ cs) t zero h = ltb-true c n (and-parts (ltb c n) (all-named n cs) t .0)
 named-below n (c ∷ cs) t (suc i) h = named-below n cs (and-parts (ltb c n) (all-named n cs) t .1) i (omega arith)
 
-zero-bit : (w i : ℕ) → bit-in w 0 i ≡ 0
+pub zero-bit : (w i : ℕ) → bit-in w 0 i ≡ 0
 zero-bit w i = rw (zero-div (2 ^ (w - 1 - i)))
 
 module _ (kind width : ℕ) (ns cs : List ℕ) (place : ℕ) where
