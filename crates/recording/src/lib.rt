@@ -6,3 +6,4 @@ mod layout;
 pub mod list;
 pub mod names;
 mod reader;
+pub mod guarantee;
