@@ -50,13 +50,13 @@ goes-on-push ns m = record { longer = omega (arith, length-push ns m); same = λ
 different-push : (ns : List ℕ) (m : ℕ) → length ns ≤ place-in ns m → Different ns → Different (ns ++ m ∷ [])
 different-push ns m new d i h = ⊎-elim
     (λ (l : i < length ns).
-        let e : getD (ns ++ m ∷ []) i 0 ≡ getD ns i 0 = getD-append-left ns (m ∷ []) 0 i l in
-        let p = d i l in
-        ap (place-in (ns ++ m ∷ [])) e ∙ place-left ns (m ∷ []) (getD ns i 0) (omega arith) ∙ p)
+    let e : getD (ns ++ m ∷ []) i 0 ≡ getD ns i 0 = getD-append-left ns (m ∷ []) 0 i l in
+    let p = d i l in
+    ap (place-in (ns ++ m ∷ [])) e ∙ place-left ns (m ∷ []) (getD ns i 0) (omega arith) ∙ p)
     (λ (l : length ns ≤ i).
-        let at : length ns ≡ i = omega (arith, length-push ns m) in
-        let e : getD (ns ++ m ∷ []) i 0 ≡ m = getD-push ns m 0 i at in
-        ap (place-in (ns ++ m ∷ [])) e ∙ place-push ns m new ∙ at)
+    let at : length ns ≡ i = omega (arith, length-push ns m) in
+    let e : getD (ns ++ m ∷ []) i 0 ≡ m = getD-push ns m 0 i at in
+    ap (place-in (ns ++ m ∷ [])) e ∙ place-push ns m new ∙ at)
     (cases-lt i (length ns))
 
 -- one look-up
@@ -88,17 +88,17 @@ module _ (limit : ℕ) (ns : List ℕ) (m : ℕ) where
   placed : (known ns m || ltb (length ns) limit) ≡ true → (place-in ns m < length (with-name limit ns m)) × (getD (with-name limit ns m) (place-in ns m) 0 ≡ m)
   placed t = ⊎-elim
       (λ k.
-          let a : adds limit ns m ≡ false = and-left (not (known ns m)) (ltb (length ns) limit) (not-from-true (known ns m) k) in
-          let e : with-name limit ns m ≡ ns = cond-false _ _ _ a in
-          let l = ltb-true _ _ k in
-          rw e (l, place-get ns m l))
+      let a : adds limit ns m ≡ false = and-left (not (known ns m)) (ltb (length ns) limit) (not-from-true (known ns m) k) in
+      let e : with-name limit ns m ≡ ns = cond-false _ _ _ a in
+      let l = ltb-true _ _ k in
+      rw e (l, place-get ns m l))
       (λ k.
-          let r : ltb (length ns) limit ≡ true = ap (λ (b : Bool). b || ltb (length ns) limit) (sym k) ∙ t in
-          let a : adds limit ns m ≡ true = and-from (not (known ns m)) (ltb (length ns) limit) (not-from-false (known ns m) k) r in
-          let e : with-name limit ns m ≡ ns ++ m ∷ [] = cond-true _ _ _ a in
-          let at : length ns ≡ place-in ns m = omega (arith, place-most ns m, ltb-false _ _ k) in
-          let low : place-in ns m < length (ns ++ m ∷ []) = omega (arith, length-push ns m) in
-          rw e (low, getD-push ns m 0 (place-in ns m) at))
+      let r : ltb (length ns) limit ≡ true = ap (λ (b : Bool). b || ltb (length ns) limit) (sym k) ∙ t in
+      let a : adds limit ns m ≡ true = and-from (not (known ns m)) (ltb (length ns) limit) (not-from-false (known ns m) k) r in
+      let e : with-name limit ns m ≡ ns ++ m ∷ [] = cond-true _ _ _ a in
+      let at : length ns ≡ place-in ns m = omega (arith, place-most ns m, ltb-false _ _ k) in
+      let low : place-in ns m < length (ns ++ m ∷ []) = omega (arith, length-push ns m) in
+      rw e (low, getD-push ns m 0 (place-in ns m) at))
       (cases-bool (known ns m))
 
 -- all look-ups of a row
@@ -140,20 +140,22 @@ coded-back limit ns cs [] ds e t =
     (ap (all-named (length ns)) (sym same) ∙ t, ap (named-by ns) (sym same) ∙ sym (append-nil (named-by ns cs)))
 coded-back limit ns cs (m ∷ ms) ds e t = ⊎-elim
     (λ k.
-        let ns′ = with-name limit ns m in
-        let c = place-in ns m in
-        let step : coded limit ns′ (cs ++ c ∷ []) ms ≡ Ok ds = sym (cond-true _ _ _ k) ∙ e in
-        let p = placed limit ns m k in
-        let t′ = named-push (length ns′) cs c (named-longer (length ns) (length ns′) cs (with-goes-on limit ns m .longer) t) (p .0) in
-        let r = coded-back limit ns′ (cs ++ c ∷ []) ms ds step t′ in
-        let L = learnt limit ns′ ms in
-        let at : getD L c 0 ≡ m = learnt-goes-on limit ns′ ms .same c (p .0) ∙ p .1 in
-        (r .0, r .1
-            ∙ ap (λ (xs : List ℕ). xs ++ ms) (map-push (λ d. getD L d 0) cs c ∙ ap (λ (y : ℕ). named-by L cs ++ y ∷ []) at)
-            ∙ append-assoc (named-by L cs) (m ∷ []) ms))
+    let ns′ = with-name limit ns m in
+    let c = place-in ns m in
+    let step : coded limit ns′ (cs ++ c ∷ []) ms ≡ Ok ds = sym (cond-true _ _ _ k) ∙ e in
+    let p = placed limit ns m k in
+    let t′ = named-push (length ns′) cs c (named-longer (length ns) (length ns′) cs (with-goes-on limit ns m .longer) t) (p .0) in
+    let r = coded-back limit ns′ (cs ++ c ∷ []) ms ds step t′ in
+    let L = learnt limit ns′ ms in
+    let at : getD L c 0 ≡ m = learnt-goes-on limit ns′ ms .same c (p .0) ∙ p .1 in (
+      r .0,
+      r .1
+          ∙ ap (λ (xs : List ℕ). xs ++ ms) (map-push (λ d. getD L d 0) cs c ∙ ap (λ (y : ℕ). named-by L cs ++ y ∷ []) at)
+          ∙ append-assoc (named-by L cs) (m ∷ []) ms,
+    ))
     (λ k.
-        let o : coded limit ns cs (m ∷ ms) ≡ Err (suc (length cs)) = cond-false _ _ _ k in
-        absurd (let z : _≡_ {A = ℕ} 0 1 = cc in omega arith))
+    let o : coded limit ns cs (m ∷ ms) ≡ Err (suc (length cs)) = cond-false _ _ _ k in
+    absurd (let z : _≡_ {A = ℕ} 0 1 = cc in omega arith))
     (cases-bool (known ns m || ltb (length ns) limit))
 
 pub codes-stand : (limit : ℕ) (ms cs : List ℕ) → codes-of limit ms ≡ Ok cs → Coded limit ms cs

@@ -194,9 +194,9 @@ pub laid : (kind width : ℕ) → kind < 4 → 1 ≤ width → Laid kind width
 laid kind width mark pos =
     record {
       only = λ bytes n low e.
-        let so = facts kind width bytes n e in
-        let l = length-numbers (bit-of 8 bytes) width 24 n in
-        ((omega (arith, so .most), names-below width bytes n), l, laid-recorded kind width pos bytes n so low);
+          let so = facts kind width bytes n e in
+          let l = length-numbers (bit-of 8 bytes) width 24 n in
+          ((omega (arith, so .most), names-below width bytes n), l, laid-recorded kind width pos bytes n so low);
       all = λ ns row. (recorded-laid kind width mark pos ns (row .0), recorded-names kind width mark pos ns (row .1));
       bytes = recorded-below kind width mark pos;
     }

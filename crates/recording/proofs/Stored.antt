@@ -28,5 +28,5 @@ loaded-as-stored kind width mark pos ns cs limit ds most low t e =
     let row = named-by ns cs in
     let l : length row ≡ length cs = length-map cs (λ c. getD ns c 0) in
     let again : names-in width (recording kind width row) (length cs) ≡ row =
-        ap (names-in width (recording kind width row)) (sym l) ∙ laid kind width mark pos .all row (omega arith, named-by-below (2 ^ width) ns cs low t) .1 in
+    ap (names-in width (recording kind width row)) (sym l) ∙ laid kind width mark pos .all row (omega arith, named-by-below (2 ^ width) ns cs low t) .1 in
     codes-stand limit (names-in width (recording kind width row) (length cs)) ds e .back ∙ again

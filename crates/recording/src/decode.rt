@@ -4,12 +4,13 @@ ghost use Rattle.recording.specs.Bits.{bit-of, number-at};
 ghost use Rattle.recording.specs.Coding.{at-place, codes-of, coded-answer, decoded, names-in, names-of, names-recorded, with-records};
 ghost use Rattle.recording.specs.Lists.{limit-of, looked-count, looked-memory, looked-up};
 ghost use Rattle.recording.specs.Reading.{bytes-for};
+ghost use Rattle.recording.specs.Writing.{all-named};
 ghost use Rattle.std.specs.Results.{isOk};
 ghost use Rattle.std.specs.Vec.{made};
 ghost use Rattle.std.specs.declared.result.Result.the-variants.{Ok};
 ghost use denote.Ref.{name};
 ghost use lib.ListN.{length, take};
-ghost use mathlib.Core.Bool.{cond};
+ghost use mathlib.Core.Bool.{cond, true};
 ghost use mathlib.Core.Path.{_≡_};
 use crate::fault::Layer;
 use crate::fault::LoadFault;
@@ -55,6 +56,7 @@ fn read_names<N: Name + Copy>(
     requires empty { ⌜ now list .count ≡ 0 ⌝ }
     ensures answer { λ r. ⌜ r ≡ coded-answer (codes-of (limit-of (length (now (now (list .entry) .memory)))) (names-in (N·Name .width) (now (bytes .entry)) count)) ⌝ }
     ensures codes { λ r. ⌜ made r (λ n. codes-of (limit-of (length (now (now (list .entry) .memory)))) (names-in (N·Name .width) (now (bytes .entry)) count) ≡ Ok (take n (now (codes .exit)))) ⌝ }
+    ensures named { λ r. ⌜ made r (λ n. all-named (now (list .exit) .count) (take n (now (codes .exit))) ≡ true) ⌝ }
     ensures count { λ _. ⌜ now (list .exit) .count ≡ length (names-of (limit-of (length (now (now (list .entry) .memory)))) (names-in (N·Name .width) (now (bytes .entry)) count)) ⌝ }
     ensures memory { λ _. ⌜ now (now (list .exit) .memory) ≡ with-records (N·Name .named) (names-of (limit-of (length (now (now (list .entry) .memory)))) (names-in (N·Name .width) (now (bytes .entry)) count)) (now (now (list .entry) .memory)) ⌝ }
     ensures lender { λ _. ⌜ name (now (list .exit) .memory) ≡ name (now (list .entry) .memory) ⌝ }
@@ -76,6 +78,7 @@ pub fn decode<N: Name + Copy>(
 ) -> Result<usize, LoadFault>
     ensures answer { λ r. ⌜ r ≡ decoded (N·Name .kind) (N·Name .width) (length (now (now (list .entry) .memory))) (now (bytes .entry)) ⌝ }
     ensures codes { λ r. ⌜ made r (λ n. codes-of (limit-of (length (now (now (list .entry) .memory)))) (names-recorded (N·Name .kind) (N·Name .width) (now (bytes .entry))) ≡ Ok (take n (now (codes .exit)))) ⌝ }
+    ensures named { λ r. ⌜ made r (λ n. all-named (now (list .exit) .count) (take n (now (codes .exit))) ≡ true) ⌝ }
     ensures count { λ r. ⌜ now (list .exit) .count ≡ cond (isOk r) (length (names-of (limit-of (length (now (now (list .entry) .memory)))) (names-recorded (N·Name .kind) (N·Name .width) (now (bytes .entry))))) 0 ⌝ }
     ensures memory { λ _. ⌜ now (now (list .exit) .memory) ≡ with-records (N·Name .named) (names-of (limit-of (length (now (now (list .entry) .memory)))) (names-recorded (N·Name .kind) (N·Name .width) (now (bytes .entry)))) (now (now (list .entry) .memory)) ⌝ }
     ensures lender { λ _. ⌜ name (now (list .exit) .memory) ≡ name (now (list .entry) .memory) ⌝ }

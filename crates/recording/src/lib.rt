@@ -7,3 +7,7 @@ pub mod list;
 pub mod names;
 mod reader;
 pub mod guarantee;
+mod layout;
+pub mod list;
+pub mod names;
+mod reader;

@@ -1,7 +1,9 @@
 //! Name lists over provided memory: a name's place in the list is its code.
+ghost use Prim.Native.Nat.{_<_, _≤_};
 ghost use Rattle.recording.specs.Lists.{held, in-list, looked-count, looked-memory, looked-up, place-in};
+ghost use Rattle.std.specs.Options.{Cases as BySome};
 ghost use denote.Ref.{name};
-ghost use lib.ListN.{length};
+ghost use lib.ListN.{getD, length};
 ghost use mathlib.Core.List.{map};
 ghost use mathlib.Core.Path.{_≡_};
 use crate::names::Name;
@@ -46,6 +48,17 @@ impl<'m, N: Name + Copy> NameList<'m, N> {
     {
         let count = self.len();
         &self.memory[0..count]
+    }
+
+    /// The name that has a code, if there is one.
+    pub fn name_of(&self, code: u8) -> Option<N>
+        ensures { λ r. ⌜ BySome r (length (in-list (now (now (self .entry) .memory)) (now (self .entry) .count)) ≤ code) (λ x. (code < length (in-list (now (now (self .entry) .memory)) (now (self .entry) .count))) × (x ≡ getD (in-list (now (now (self .entry) .memory)) (now (self .entry) .count)) code x)) ⌝ }
+    {
+        let names = self.names();
+        if code as usize >= names.len() {
+            return None;
+        }
+        Some(names[code as usize])
     }
 
     /// The code of a name, which is its place in the list, counted from 0. A new name is added at the end.
