@@ -11,3 +11,6 @@ mod layout;
 pub mod list;
 pub mod names;
 mod reader;
+
+#[cfg(test)]
+mod tests;
