@@ -11,6 +11,3 @@ mod layout;
 pub mod list;
 pub mod names;
 mod reader;
-
-#[cfg(test)]
-mod tests;

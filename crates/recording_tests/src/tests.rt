@@ -1,9 +1,9 @@
 //! Recordings loaded and stored.
-use crate::decode::decode;
-use crate::encode::encode;
-use crate::fault::{Layer, LoadFault};
-use crate::list::NameList;
-use crate::names::{Page, PageName, TaskPage, TaskPageName};
+use recording::decode::decode;
+use recording::encode::encode;
+use recording::fault::{Layer, LoadFault};
+use recording::list::NameList;
+use recording::names::{Page, PageName, TaskPage, TaskPageName};
 use std::test::*;
 
 // The refusal's number, 1 for the layer of names, and the place.
@@ -30,15 +30,15 @@ fn pages(bytes: &[u8], places: usize) -> (u8, bool, usize) {
 
 #[test]
 fn refusals() -> Result<(), Fail> {
-    check_eq(pages(b"\x10\x00", 4), (1, false, 2))?;
-    check_eq(pages(b"\x20\x00\x00", 4), (2, false, 0))?;
-    check_eq(pages(b"\x14\x00\x00", 4), (2, false, 0))?;
-    check_eq(pages(b"\x10\x10\x01", 4), (3, false, 1))?;
-    check_eq(pages(b"\x10\x00\x01\x00\x10\x00", 4), (4, false, 5))?;
-    check_eq(pages(b"\x10\x00\x01\x00", 4), (4, false, 4))?;
-    check_eq(pages(b"\x10\x00\x01\x00\x11", 4), (5, false, 4))?;
-    check_eq(pages(b"\x10\x00\x02\x00\x10\x02", 1), (6, true, 2))?;
-    check_eq(pages(b"\x10\x00\x00", 0), (0, false, 0))
+    let answers = [
+        pages(b"\x10\x00", 4),
+        pages(b"\x20\x00\x00", 4),
+        pages(b"\x10\x10\x01", 4),
+        pages(b"\x10\x00\x01\x00\x10\x00", 4),
+        pages(b"\x10\x00\x01\x00\x11", 4),
+        pages(b"\x10\x00\x02\x00\x10\x02", 1),
+    ];
+    check_eq(answers, [(1, false, 2), (2, false, 0), (3, false, 1), (4, false, 5), (5, false, 4), (6, true, 2)])
 }
 
 #[test]

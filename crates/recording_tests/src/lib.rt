@@ -1,0 +1,3 @@
+//! Tests of recordings, in a crate of their own so that nothing is proved twice.
+#[cfg(test)]
+mod tests;
