@@ -5,6 +5,12 @@ ghost use lib.Dec.{eqb};
 ghost use mathlib.Core.Path.{_≡_};
 use paging::refusal::Refusal;
 
+// How many bits stand for a name in a recording, and the kind's number, for both kinds.
+const PAGE_WIDTH: usize = 12;
+const PAGE_KIND: u16 = 0;
+const TASK_PAGE_WIDTH: usize = 16;
+const TASK_PAGE_KIND: u16 = 1;
+
 /// A kind of name. A name stands for a number of `width` bits, and names that stand for the same number are equal.
 pub trait Name {
     // what a name stands for
@@ -78,7 +84,7 @@ pub impl Name for Page as PageName {
     ghost kind = { 0 };
 
     fn same(&self, other: &Page) -> bool {
-        self.page % 4096 == other.page % 4096
+        self.to_bits() == other.to_bits()
     }
 
     fn to_bits(&self) -> u16 {
@@ -90,11 +96,11 @@ pub impl Name for Page as PageName {
     }
 
     fn bit_width() -> usize {
-        12
+        PAGE_WIDTH
     }
 
     fn kind_number() -> u16 {
-        0
+        PAGE_KIND
     }
 }
 
@@ -142,10 +148,10 @@ pub impl Name for TaskPage as TaskPageName {
     }
 
     fn bit_width() -> usize {
-        16
+        TASK_PAGE_WIDTH
     }
 
     fn kind_number() -> u16 {
-        1
+        TASK_PAGE_KIND
     }
 }
