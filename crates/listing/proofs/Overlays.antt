@@ -3,12 +3,12 @@ use mathlib.Core.Path.{_≡_, refl, sym, ap, _∙_}
 use mathlib.Core.List.{List, [], _∷_, _++_, append-assoc}
 use Prim.Native.Nat.{ℕ, _+_, _-_, _^_, _/_, _%_, _≤_, _<_}
 use native.Mathlib.Numerals.{add-one}
-use native.Mathlib.Nat.{add-assoc}
+use native.Mathlib.Nat.{add-assoc, add-zero}
 use native.Mathlib.Omega.{arith}
 use lib.ListN.{length, take, drop, set, getD}
 use Rattle.std.specs.Written.{decimal}
 use Rattle.std.proofs.shelf.Decimals.{decimal-digit, decimal-step, length-decimal-le}
-use Rattle.std.proofs.shelf.Lists.{length-push, set-split, set-at, drop-more, length-append, length-take-le, length-drop, take-at, drop-at, drop-drop, take-append-le, drop-append-le}
+use Rattle.std.proofs.shelf.Lists.{length-push, set-split, set-at, drop-more, length-append, length-take-le, length-drop, take-at, drop-at, drop-drop, take-append-le, drop-append-le, take-append-drop}
 use Rattle.listing.specs.Texts.{overlay, Wrote}
 
 pub length-one : (n : ℕ) → n < 10 → length (decimal n) ≡ 1
@@ -75,3 +75,7 @@ room-front xs at ys zs h = omega (arith, length-append ys zs)
 pub room-back : (xs : List ℕ) (at : ℕ) (ys zs ms : List ℕ) (mid : ℕ) → at + length (ys ++ zs) ≤ length xs → Wrote xs at ys ms mid → mid + length zs ≤ length ms
 room-back xs at ys zs ms mid h w =
     omega (arith, length-append ys zs, w .ends, length-wrote xs at ys ms mid (room-front xs at ys zs h) w)
+
+-- nothing was written
+pub wrote-none : (xs : List ℕ) (at : ℕ) → Wrote xs at [] xs at
+wrote-none xs at = record { bytes = rw (add-zero at) (sym (take-append-drop at xs)); ends = sym (add-zero at) }

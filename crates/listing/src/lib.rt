@@ -1,2 +1,4 @@
 //! The listing: the faults of the policies at each frame count, as text.
+pub mod refused;
+pub mod table;
 pub mod text;

@@ -16,15 +16,15 @@ pub struct Row {
 }
 
 /// How many decimal digits a number has.
-fn digit_count(n: u32) -> usize
+fn digit_count(n: usize) -> usize
     ensures value { λ r. ⌜ r ≡ length (decimal n) ⌝ }
-    ensures bound { λ r. ⌜ r ≤ 10 ⌝ }
+    ensures bound { λ r. ⌜ r ≤ 20 ⌝ }
 {
     if n < 10 { 1 } else { digit_count(n / 10) + 1 }
 }
 
 /// Writes the decimal digits of a number from `at` on. Returns the place after them.
-fn put_digits(out: &mut [u8], at: usize, n: u32) -> usize
+fn put_digits(out: &mut [u8], at: usize, n: usize) -> usize
     requires { ⌜ at + length (decimal n) ≤ length (now out) ⌝ }
     ensures answer { λ r. ⌜ r ≡ at + length (decimal n) ⌝ }
     ensures bytes { λ _. ⌜ now (out .exit) ≡ overlay (now (out .entry)) at (decimal n) ⌝ }
@@ -39,15 +39,15 @@ fn put_digits(out: &mut [u8], at: usize, n: u32) -> usize
 }
 
 /// How many bytes a number takes with the byte that ends it.
-pub fn field_len(n: u32) -> usize
+pub fn field_len(n: usize) -> usize
     ensures value { λ r. ⌜ r ≡ length (decimal n) + 1 ⌝ }
-    ensures bound { λ r. ⌜ r ≤ 11 ⌝ }
+    ensures bound { λ r. ⌜ r ≤ 21 ⌝ }
 {
     digit_count(n) + 1
 }
 
 /// Writes a number and the byte that ends it. Returns the place after them.
-pub fn put_field(out: &mut [u8], at: usize, n: u32, end: u8) -> usize
+pub fn put_field(out: &mut [u8], at: usize, n: usize, end: u8) -> usize
     requires { ⌜ at + length (field n end) ≤ length (now out) ⌝ }
     ensures { λ r. ⌜ Wrote (now (out .entry)) at (field n end) (now (out .exit)) r ⌝ }
 {
@@ -70,13 +70,13 @@ impl Row {
     /// How many bytes the row's line takes.
     pub fn text_len(self) -> usize
         ensures value { λ r. ⌜ r ≡ length (row-text self) ⌝ }
-        ensures bound { λ r. ⌜ r ≤ 55 ⌝ }
+        ensures bound { λ r. ⌜ r ≤ 105 ⌝ }
     {
-        field_len(self.frames)
-            + field_len(self.lru)
-            + field_len(self.min)
-            + field_len(self.dpmin)
-            + field_len(self.pulls)
+        field_len(self.frames as usize)
+            + field_len(self.lru as usize)
+            + field_len(self.min as usize)
+            + field_len(self.dpmin as usize)
+            + field_len(self.pulls as usize)
     }
 
     /// Writes the row's line from `at` on. Returns the place after it.
@@ -84,10 +84,10 @@ impl Row {
         requires { ⌜ at + length (row-text self) ≤ length (now out) ⌝ }
         ensures { λ r. ⌜ Wrote (now (out .entry)) at (row-text self) (now (out .exit)) r ⌝ }
     {
-        let a = put_field(out, at, self.frames, b',');
-        let b = put_field(out, a, self.lru, b',');
-        let c = put_field(out, b, self.min, b',');
-        let d = put_field(out, c, self.dpmin, b',');
-        put_field(out, d, self.pulls, b'\n')
+        let a = put_field(out, at, self.frames as usize, b',');
+        let b = put_field(out, a, self.lru as usize, b',');
+        let c = put_field(out, b, self.min as usize, b',');
+        let d = put_field(out, c, self.dpmin as usize, b',');
+        put_field(out, d, self.pulls as usize, b'\n')
     }
 }

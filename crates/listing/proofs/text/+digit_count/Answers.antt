@@ -11,7 +11,7 @@ returns-then-n-lt10 t c = search (needs, length-one)
 pub returns-else-n-lt10 : need.returns-else-n-lt10
 returns-else-n-lt10 t c =
     let f : c .args .n < 2 ^ 64 = omega arith in
-    let g : c .args .n < 10 ^ 10 = omega arith in
+    let g : c .args .n < 10 ^ 20 = omega arith in
     let l = length-more (c .args .n) (c .if-n-lt10 .left) f in
-    let m = length-decimal-le 10 (c .args .n) (omega arith) g f in
+    let m = length-decimal-le 20 (c .args .n) (omega arith) g f in
     record { value = omega (arith, l); bound = omega (arith, l, m) }
