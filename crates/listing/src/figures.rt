@@ -2,7 +2,7 @@
 ghost use Prim.Native.Nat.{_≤_};
 ghost use Rattle.evaluator.specs.Answers.{write-answer, written};
 ghost use Rattle.evaluator.specs.Strings.{string};
-ghost use Rattle.listing.specs.Listings.{figures-text, row-count, rows-of};
+ghost use Rattle.listing.specs.Listings.{figures-text, row-count, rows-of, table-text};
 ghost use Rattle.std.specs.declared.result.Result.the-variants.{Ok};
 ghost use lib.ListN.{length};
 ghost use mathlib.Core.Path.{_≡_};
@@ -46,6 +46,16 @@ fn row_count(trial: &Trial) -> usize
     trial.page_count().min(64).max(1) as usize
 }
 
+/// Fills the rows with the figures, and writes their table, if it fits. Returns how many bytes it is.
+fn put_rows(out: &mut [u8], trial: &Trial, rows: &mut [Row]) -> Result<usize, Refusal>
+    requires { ⌜ length (now rows) ≤ 64 ⌝ }
+    ensures answer { λ r. ⌜ r ≡ write-answer (length (table-text (rows-of (string (now (trial .entry))) (length (now (rows .entry)))))) (now (out .entry)) ⌝ }
+    ensures bytes { λ _. ⌜ now (out .exit) ≡ written (table-text (rows-of (string (now (trial .entry))) (length (now (rows .entry))))) (now (out .entry)) ⌝ }
+{
+    fill_rows(trial, rows)?;
+    put_table(out, rows)
+}
+
 /// Writes the table of a trial's string, if it fits. Returns how many bytes it is.
 pub fn put_figures(out: &mut [u8], trial: &Trial) -> Result<usize, Refusal>
     ensures answer { λ r. ⌜ r ≡ write-answer (length (figures-text (string (now (trial .entry))))) (now (out .entry)) ⌝ }
@@ -59,6 +69,5 @@ pub fn put_figures(out: &mut [u8], trial: &Trial) -> Result<usize, Refusal>
         pulls: 0,
     }; 64];
     let count = row_count(trial);
-    fill_rows(trial, &mut table[0..count])?;
-    put_table(out, &table[0..count])
+    put_rows(out, trial, &mut table[0..count])
 }
