@@ -6,7 +6,8 @@ use Rattle.std.specs.Iters.{counting}
 use Rattle.std.specs.declared.result.Result.{Result}
 use Rattle.std.specs.declared.result.Result.the-variants.{Ok, Err}
 use lib.Chars.{codes}
-use lib.Dec.{eqb}
+use lib.Dec.{eqb, leb}
+use lib.ListN.{length}
 use Rattle.paging.specs.declared.policy.Policy.the-variants.{Lru, Min, Dpmin}
 use Rattle.paging.specs.Policies.{instants, pulls-of}
 use Rattle.paging.specs.Refusals.{number}
@@ -73,3 +74,7 @@ answer-text (Err e) s = fault-text e
 -- the listing of a recording
 abbrev pub listing-text : List ℕ → List ℕ
 listing-text bytes = answer-text (own-load bytes) (own-string bytes)
+
+-- how many bytes of a text are written into a memory: all, or none where it does not fit
+abbrev pub count-written : List ℕ → List ℕ → ℕ
+count-written text out = cond (leb (length text) (length out)) (length text) 0
