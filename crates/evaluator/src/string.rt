@@ -28,7 +28,7 @@ impl Trial {
     pub fn len(&self) -> usize
         ensures { λ r. ⌜ r ≡ length (string (now (self .entry))) ⌝ }
     {
-        self.len
+        self.codes().len()
     }
 
     /// The codes of the string.

@@ -2,10 +2,6 @@
 pub mod decode;
 pub mod encode;
 pub mod fault;
-mod layout;
-pub mod list;
-pub mod names;
-mod reader;
 pub mod guarantee;
 mod layout;
 pub mod list;

@@ -1,0 +1,3 @@
+//! Tests of the calls of a trial.
+#[cfg(test)]
+mod tests;
