@@ -3,7 +3,7 @@ use mathlib.Core.Path.{_≡_, refl, ap, sym, _∙_}
 use mathlib.Core.Bool.{Bool, true, false, cond}
 use mathlib.Core.List.{List}
 use mathlib.Core.Logic.{_⊎_, inl, inr}
-use Prim.Native.Nat.{ℕ}
+use Prim.Native.Nat.{ℕ, _≤_}
 use native.Mathlib.Omega.{arith}
 use lib.Dec.{leb}
 use lib.ListN.{length}
@@ -39,3 +39,11 @@ counts-none text out r x e o = go (cases-bool (leb (length text) (length out)))
     go : (leb (length text) (length out) ≡ true) ⊎ (leb (length text) (length out) ≡ false) → 0 ≡ count-written text out
     go (inl b) = let w : Err x ≡ Ok (length text) = sym o ∙ e ∙ cond-true _ _ _ b in cc (w)
     go (inr b) = sym (cond-false _ (length text) 0 b)
+
+-- no listing is empty
+pub some-text : (bytes : List ℕ) → 1 ≤ length (listing-text bytes)
+some-text bytes = go (own-load bytes)
+  where
+    go : (r : Result ℕ LoadFault) → 1 ≤ length (answer-text r (own-string bytes))
+    go (Ok n) = omega arith
+    go (Err e) = omega arith

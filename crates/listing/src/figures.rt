@@ -51,6 +51,7 @@ fn put_rows(out: &mut [u8], trial: &Trial, rows: &mut [Row]) -> Result<usize, Re
     requires { ⌜ length (now rows) ≤ 64 ⌝ }
     ensures answer { λ r. ⌜ r ≡ write-answer (length (table-text (rows-of (string (now (trial .entry))) (length (now (rows .entry)))))) (now (out .entry)) ⌝ }
     ensures bytes { λ _. ⌜ now (out .exit) ≡ written (table-text (rows-of (string (now (trial .entry))) (length (now (rows .entry))))) (now (out .entry)) ⌝ }
+    ensures most { λ _. ⌜ length (table-text (rows-of (string (now (trial .entry))) (length (now (rows .entry))))) ≤ 6747 ⌝ }
 {
     fill_rows(trial, rows)?;
     put_table(out, rows)
@@ -60,6 +61,7 @@ fn put_rows(out: &mut [u8], trial: &Trial, rows: &mut [Row]) -> Result<usize, Re
 pub fn put_figures(out: &mut [u8], trial: &Trial) -> Result<usize, Refusal>
     ensures answer { λ r. ⌜ r ≡ write-answer (length (figures-text (string (now (trial .entry))))) (now (out .entry)) ⌝ }
     ensures bytes { λ _. ⌜ now (out .exit) ≡ written (figures-text (string (now (trial .entry)))) (now (out .entry)) ⌝ }
+    ensures most { λ _. ⌜ length (figures-text (string (now (trial .entry)))) ≤ 6747 ⌝ }
 {
     let mut table = [Row {
         frames: 0,

@@ -14,7 +14,8 @@ use recording::fault::LoadFault;
 
 /// How many bytes the line of a refused load takes.
 fn fault_len(fault: LoadFault) -> usize
-    ensures { λ r. ⌜ r ≡ length (fault-text fault) ⌝ }
+    ensures value { λ r. ⌜ r ≡ length (fault-text fault) ⌝ }
+    ensures bound { λ r. ⌜ r ≤ 56 ⌝ }
 {
     14 + field_len(fault.refusal.number() as usize) + field_len(fault.place)
 }
@@ -34,6 +35,7 @@ fn put_layer(out: &mut [u8], at: usize, layer: Layer) -> usize
 pub fn put_fault(out: &mut [u8], fault: LoadFault) -> Result<usize, Refusal>
     ensures answer { λ r. ⌜ r ≡ write-answer (length (fault-text fault)) (now (out .entry)) ⌝ }
     ensures bytes { λ _. ⌜ now (out .exit) ≡ written (fault-text fault) (now (out .entry)) ⌝ }
+    ensures most { λ _. ⌜ length (fault-text fault) ≤ 56 ⌝ }
 {
     if out.len() < fault_len(fault) {
         return Err(Refusal::OutputTooShort);

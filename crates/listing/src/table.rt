@@ -39,6 +39,7 @@ pub fn put_table(out: &mut [u8], rows: &[Row]) -> Result<usize, Refusal>
     requires { ⌜ length (now rows) ≤ 64 ⌝ }
     ensures answer { λ r. ⌜ r ≡ write-answer (length (table-text (now (rows .entry)))) (now (out .entry)) ⌝ }
     ensures bytes { λ _. ⌜ now (out .exit) ≡ written (table-text (now (rows .entry))) (now (out .entry)) ⌝ }
+    ensures most { λ _. ⌜ length (table-text (now (rows .entry))) ≤ 6747 ⌝ }
 {
     if out.len() < 27 + lines_len(rows) {
         return Err(Refusal::OutputTooShort);

@@ -7,6 +7,8 @@ returns-in-Ok c =
     record {
       answer = counts (listing-text (c .args .recording .now)) (c .args .out .now) (c .listing .result) (c .in-Ok .count) (c .listing .ensures .answer) (c .in-Ok .is);
       bytes = c .listing .ensures .bytes;
+      some = c .listing .ensures .some;
+      most = c .listing .ensures .most;
     }
 
 pub returns-in-Err : need.returns-in-Err
@@ -14,4 +16,6 @@ returns-in-Err c =
     record {
       answer = counts-none (listing-text (c .args .recording .now)) (c .args .out .now) (c .listing .result) (c .in-Err .field-0) (c .listing .ensures .answer) (c .in-Err .is);
       bytes = c .listing .ensures .bytes;
+      some = c .listing .ensures .some;
+      most = c .listing .ensures .most;
     }

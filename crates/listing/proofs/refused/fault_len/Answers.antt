@@ -22,4 +22,4 @@ returns c =
     let n = field (number (e .refusal)) 44 in
     let l = layer-text (e .layer) in
     let p = field (e .place) 10 in
-    omega (arith, length-append n (l ++ p), length-append l p, length-layer (e .layer), length-push (decimal (number (e .refusal))) 44, length-push (decimal (e .place)) 10, c .field-len .ensures .value, c .field-len-2 .ensures .value, ap (λ (k : ℕ). length (decimal k)) (c .number .ensures))
+    record { value = omega (arith, length-append n (l ++ p), length-append l p, length-layer (e .layer), length-push (decimal (number (e .refusal))) 44, length-push (decimal (e .place)) 10, c .field-len .ensures .value, c .field-len-2 .ensures .value, ap (λ (k : ℕ). length (decimal k)) (c .number .ensures)); bound = omega (arith, c .field-len .ensures .bound, c .field-len-2 .ensures .bound) }

@@ -30,14 +30,14 @@ pub put-field-b-requires : need.put-field-b-requires
 put-field-b-requires c κs =
     room-front _ _ (field (c .number .result) 44) (tail (c .args .fault))
     (room-back (c .args .out .now) 0 word (field (c .number .result) 44 ++ tail (c .args .fault)) _ _
-    (fits (c .args .fault) (c .args .out .now) _ _ (c .number .ensures) (c .fault-len .ensures) (c .if-out-fault-len .left)) (c .put-bytes-a .ensures))
+    (fits (c .args .fault) (c .args .out .now) _ _ (c .number .ensures) (c .fault-len .ensures .value) (c .if-out-fault-len .left)) (c .put-bytes-a .ensures))
 
 pub put-layer-c-requires : need.put-layer-c-requires
 put-layer-c-requires c κs =
     room-front _ _ (layer-text (c .args .fault .layer)) (field (c .args .fault .place) 10)
     (room-back _ _ (field (c .number .result) 44) (tail (c .args .fault)) _ _
     (room-back (c .args .out .now) 0 word (field (c .number .result) 44 ++ tail (c .args .fault)) _ _
-    (fits (c .args .fault) (c .args .out .now) _ _ (c .number .ensures) (c .fault-len .ensures) (c .if-out-fault-len .left)) (c .put-bytes-a .ensures))
+    (fits (c .args .fault) (c .args .out .now) _ _ (c .number .ensures) (c .fault-len .ensures .value) (c .if-out-fault-len .left)) (c .put-bytes-a .ensures))
     (c .put-field-b .ensures))
 
 pub put-field-requires : need.put-field-requires
@@ -45,15 +45,16 @@ put-field-requires c κs =
     room-back _ _ (layer-text (c .args .fault .layer)) (field (c .args .fault .place) 10) _ _
     (room-back _ _ (field (c .number .result) 44) (tail (c .args .fault)) _ _
     (room-back (c .args .out .now) 0 word (field (c .number .result) 44 ++ tail (c .args .fault)) _ _
-    (fits (c .args .fault) (c .args .out .now) _ _ (c .number .ensures) (c .fault-len .ensures) (c .if-out-fault-len .left)) (c .put-bytes-a .ensures))
+    (fits (c .args .fault) (c .args .out .now) _ _ (c .number .ensures) (c .fault-len .ensures .value) (c .if-out-fault-len .left)) (c .put-bytes-a .ensures))
     (c .put-field-b .ensures)) (c .put-layer-c .ensures)
 
 pub returns-then-out-fault-len : need.returns-then-out-fault-len
 returns-then-out-fault-len c =
-    let h : length (c .args .out .now) < length (fault-text (c .args .fault)) = omega (arith, c .if-out-fault-len .taken, c .fault-len .ensures) in
+    let h : length (c .args .out .now) < length (fault-text (c .args .fault)) = omega (arith, c .if-out-fault-len .taken, c .fault-len .ensures .value) in
     record {
       answer = none-fits (c .args .out .now) (fault-text (c .args .fault)) h;
       bytes = none-written (c .args .out .now) (fault-text (c .args .fault)) h;
+      most = omega (arith, c .fault-len .ensures .value, c .fault-len .ensures .bound);
     }
 
 pub returns : need.returns
@@ -61,7 +62,7 @@ returns c =
     let xs = c .args .out .now in
     let e = c .args .fault in
     let n = c .number .result in
-    let ha = fits e xs n _ (c .number .ensures) (c .fault-len .ensures) (c .if-out-fault-len .left) in
+    let ha = fits e xs n _ (c .number .ensures) (c .fault-len .ensures .value) (c .if-out-fault-len .left) in
     let hb = room-back xs 0 word (field n 44 ++ tail e) _ _ ha (c .put-bytes-a .ensures) in
     let hc = room-back _ _ (field n 44) (tail e) _ _ hb (c .put-field-b .ensures) in
     let w : Wrote xs 0 (line e n) (c .put-field .last .out) (c .put-field .result) =
@@ -70,5 +71,9 @@ returns c =
     (wrote-more _ _ (layer-text (e .layer)) (field (e .place) 10) _ _ _ _ (room-front _ _ (layer-text (e .layer)) (field (e .place) 10) hc) (c .put-layer-c .ensures) (c .put-field .ensures))) in
     let P : ℕ → Type 0 = λ k. Wrote xs 0 (line e k) (c .put-field .last .out) (c .put-field .result) in
     let v : Wrote xs 0 (fault-text e) (c .put-field .last .out) (c .put-field .result) = subst P (c .number .ensures) w in
-    let h : length (fault-text e) ≤ length xs = omega (arith, c .if-out-fault-len .left, c .fault-len .ensures) in
-    record { answer = end-front xs (fault-text e) _ _ h v; bytes = at-front xs (fault-text e) _ _ h v }
+    let h : length (fault-text e) ≤ length xs = omega (arith, c .if-out-fault-len .left, c .fault-len .ensures .value) in
+    record {
+      answer = end-front xs (fault-text e) _ _ h v;
+      bytes = at-front xs (fault-text e) _ _ h v;
+      most = omega (arith, c .fault-len .ensures .value, c .fault-len .ensures .bound);
+    }

@@ -19,6 +19,7 @@ returns-then-out-lines-len c =
     record {
       answer = none-fits (c .args .out .now) (table-text (c .args .rows .now)) h;
       bytes = none-written (c .args .out .now) (table-text (c .args .rows .now)) h;
+      most = omega (arith, c .lines-len .ensures .value, c .lines-len .ensures .bound);
     }
 
 pub returns : need.returns
@@ -29,4 +30,5 @@ returns c =
     record {
       answer = end-front (c .args .out .now) (table-text (c .args .rows .now)) _ _ h w;
       bytes = at-front (c .args .out .now) (table-text (c .args .rows .now)) _ _ h w;
+      most = omega (arith, c .lines-len .ensures .value, c .lines-len .ensures .bound);
     }
