@@ -7,8 +7,11 @@ use paging::refusal::Refusal;
 
 // How many bits stand for a name in a recording, and the kind's number, for both kinds.
 const PAGE_WIDTH: usize = 12;
+
 const PAGE_KIND: u16 = 0;
+
 const TASK_PAGE_WIDTH: usize = 16;
+
 const TASK_PAGE_KIND: u16 = 1;
 
 /// A kind of name. A name stands for a number of `width` bits, and names that stand for the same number are equal.

@@ -1,9 +1,13 @@
 //! Recordings loaded and stored.
 use recording::decode::decode;
 use recording::encode::encode;
-use recording::fault::{Layer, LoadFault};
+use recording::fault::Layer;
+use recording::fault::LoadFault;
 use recording::list::NameList;
-use recording::names::{Page, PageName, TaskPage, TaskPageName};
+use recording::names::Page;
+use recording::names::PageName;
+use recording::names::TaskPage;
+use recording::names::TaskPageName;
 use std::test::*;
 
 // The refusal's number, 1 for the layer of names, and the place.
@@ -38,18 +42,35 @@ fn refusals() -> Result<(), Fail> {
         pages(b"\x10\x00\x01\x00\x11", 4),
         pages(b"\x10\x00\x02\x00\x10\x02", 1),
     ];
-    check_eq(answers, [(1, false, 2), (2, false, 0), (3, false, 1), (4, false, 5), (5, false, 4), (6, true, 2)])
+    check_eq(
+        answers,
+        [
+            (1, false, 2),
+            (2, false, 0),
+            (3, false, 1),
+            (4, false, 5),
+            (5, false, 4),
+            (6, true, 2),
+        ],
+    )
 }
 
 #[test]
 fn loaded_and_stored() -> Result<(), Fail> {
-    let bytes = b"\x10\x00\x0C\x00\x10\x02\x00\x30\x04\x00\x10\x02\x00\x50\x01\x00\x20\x03\x00\x40\x05";
+    let bytes =
+        b"\x10\x00\x0C\x00\x10\x02\x00\x30\x04\x00\x10\x02\x00\x50\x01\x00\x20\x03\x00\x40\x05";
     let mut memory = [Page { page: 9 }; 6];
     let mut codes = [0; 4096];
     let mut list = NameList::over(&mut memory);
-    check_eq(numbers(decode(bytes, &mut list, &mut codes)), (0, false, 12))?;
+    check_eq(
+        numbers(decode(bytes, &mut list, &mut codes)),
+        (0, false, 12),
+    )?;
     check_eq(list.len(), 5)?;
-    check_eq(&codes[0..12], b"\x00\x01\x02\x03\x00\x01\x04\x00\x01\x02\x03\x04")?;
+    check_eq(
+        &codes[0..12],
+        b"\x00\x01\x02\x03\x00\x01\x04\x00\x01\x02\x03\x04",
+    )?;
     let mut out = [7; 22];
     match encode(&list, &codes[0..12], &mut out) {
         Ok(len) => check_eq(len, 21)?,
