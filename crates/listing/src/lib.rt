@@ -14,6 +14,8 @@ mod figures;
 mod loading;
 mod refused;
 mod table;
+#[cfg(test)]
+mod tests;
 mod text;
 
 /// Writes the listing of a recording, or the line of its refusal. Returns how many bytes it wrote.
