@@ -15,15 +15,19 @@ use Rattle.pager.specs.declared.dpmin.DpminPager.{DpminPager}
 abbrev pub queue-of : FifoPager → List ℕ
 queue-of p = queue (p .used) (p .hand) (codes-of (p .frames))
 
+-- FIFO with that queue
 abbrev pub fifo-model : FifoPager → PagerModel
 fifo-model p = fifo (p .room) (queue-of p)
 
+-- its frame count
 abbrev pub fifo-room : FifoPager → ℕ
 fifo-room p = p .room
 
+-- DPMIN with those pages held
 abbrev pub dpmin-model : DpminPager → PagerModel
 dpmin-model p = dpmin (frames-of (p .frames)) (pages (p .held))
 
+-- its frame count
 abbrev pub dpmin-room : DpminPager → ℕ
 dpmin-room p = frames-of (p .frames)
 

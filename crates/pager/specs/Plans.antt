@@ -34,13 +34,15 @@ plan-words H (suc t) = plan-words H t ++ moves (suc t) (H t) (H (suc t))
 abbrev pub written : List ℕ → ℕ → List ℕ → List ℕ
 written old n ws = take n old ++ (ws ++ drop (n + length ws) old)
 
--- what a word says
+-- what a word says: the place
 abbrev pub place-of : ℕ → ℕ
 place-of w = w / 524288
 
+-- the kind
 abbrev pub kind-of : ℕ → ℕ
 kind-of w = w / 262144 % 2
 
+-- and the code
 abbrev pub code-in : ℕ → ℕ
 code-in w = w / 1024 % 256
 
@@ -61,5 +63,6 @@ pub record Tells (H : Holding) (p : ℕ) (ws : List ℕ) : Type 0 where
   pub all : length ws ≡ pulls H p + releases H p
   pub holds : (t c : ℕ) → t ≤ p → c < codes → replayed t ws (H 0) c ≡ H t c
 
+-- so it is with the plan of every schedule
 abbrev pub Plans-tell : Type 0
 Plans-tell = (H : Holding) (p : ℕ) → Tells H p (plan-words H p)

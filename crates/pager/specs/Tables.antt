@@ -4,9 +4,11 @@ use Prim.Native.Nat.{ℕ}
 use lib.ListN.{take, drop}
 use Rattle.pager.specs.declared.fifo.Frame.{Frame}
 
+-- the code of the page in a frame
 abbrev pub code-of : Frame → ℕ
 code-of f = f .code
 
+-- the codes of all frames, those not in use too
 abbrev pub codes-of : List Frame → List ℕ
 codes-of fs = map code-of fs
 

@@ -17,10 +17,8 @@ impl DpminPager {
         ensures holding { λ r. ⌜ dpmin-model r ≡ dpmin (frames-of frames) nothing ⌝ }
         ensures room { λ r. ⌜ dpmin-room r ≡ frames-of frames ⌝ }
     {
-        DpminPager {
-            held: PageSet::new(),
-            frames,
-        }
+        let held = PageSet::new();
+        DpminPager { held, frames }
     }
 }
 

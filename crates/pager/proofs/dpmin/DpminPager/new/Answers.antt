@@ -2,10 +2,8 @@
 use mathlib.Core.Path.{ap}
 use native.Mathlib.Omega.{arith}
 use Rattle.paging.specs.Pages.{size}
-use Rattle.paging.specs.Policies.{dpmin}
-use Rattle.paging.specs.Frames.{frames-of}
 use Rattle.paging.proofs.Sets.{size-nothing}
 use Rattle.pager.proofs.dpmin.DpminPager.new.Needs as need
 
 pub ghost-result : need.ghost-result
-ghost-result c = (omega (arith, ap size (c .new .ensures), size-nothing), tt)
+ghost-result c = (omega (arith, ap size (c .new-held .ensures), size-nothing), tt)
