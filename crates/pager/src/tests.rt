@@ -52,7 +52,10 @@ fn dpmin_plan() -> Result<(), Fail> {
     let mut out = [1; 6144];
     let count = plan(&mut pager, &STRING, &mut out);
     check_eq(count, 11)?;
-    check_eq([out[0], out[1], out[2]], [word(1, 1, 0), word(1, 1, 1), word(1, 1, 2)])?;
+    check_eq(
+        [out[0], out[1], out[2]],
+        [word(1, 1, 0), word(1, 1, 1), word(1, 1, 2)],
+    )?;
     check_eq([out[3], out[4]], [word(4, 0, 2), word(4, 1, 3)])?;
     check_eq([out[5], out[6]], [word(7, 0, 3), word(7, 1, 4)])?;
     check_eq([out[7], out[8]], [word(10, 0, 0), word(10, 0, 1)])?;
