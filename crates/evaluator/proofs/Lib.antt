@@ -3,3 +3,4 @@ pub mod ByLetter
 pub mod Loads
 pub mod Guaranteed
 pub mod Worked
+pub mod Stores

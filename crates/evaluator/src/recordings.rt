@@ -3,11 +3,12 @@ ghost use Rattle.evaluator.specs.Histories.{after-call, load};
 ghost use Rattle.evaluator.specs.Strings.{string};
 ghost use Rattle.recording.specs.Coding.{decoded, names-of, names-recorded, with-records};
 ghost use Rattle.recording.specs.Lists.{limit-of, listed};
-ghost use Rattle.recording.specs.Writing.{encoded, named-by, recording, written};
+ghost use Rattle.recording.specs.Writing.{all-named, encoded, named-by, recording, written};
 ghost use Rattle.std.specs.Results.{isOk};
+ghost use Rattle.std.specs.Vec.{made};
 ghost use denote.Ref.{name};
+ghost use mathlib.Core.Bool.{cond, true};
 ghost use lib.ListN.{length};
-ghost use mathlib.Core.Bool.{cond};
 ghost use mathlib.Core.Path.{_≡_};
 use crate::Trial;
 use paging::refusal::Refusal;
@@ -20,7 +21,8 @@ use recording::names::Name;
 impl Trial {
     /// Empties the trial and the list, looks up each name of the recording, and puts its code. Returns the number of references.
     ///
-    /// After a refusal trial and list are empty; the names added before it remain in the list's memory.
+    /// After a refusal trial and list are empty; the names added before it remain in the list's memory. What was loaded is what
+    /// `store` then writes: the same bytes.
     pub fn load<N: Name + Copy>(
         &mut self,
         list: &mut NameList<N>,
@@ -31,6 +33,7 @@ impl Trial {
         ensures count { λ r. ⌜ now (list .exit) .count ≡ cond (isOk r) (length (names-of (limit-of (length (now (now (list .entry) .memory)))) (names-recorded (N·Name .kind) (N·Name .width) (now (bytes .entry))))) 0 ⌝ }
         ensures memory { λ _. ⌜ now (now (list .exit) .memory) ≡ with-records (N·Name .named) (names-of (limit-of (length (now (now (list .entry) .memory)))) (names-recorded (N·Name .kind) (N·Name .width) (now (bytes .entry)))) (now (now (list .entry) .memory)) ⌝ }
         ensures lender { λ _. ⌜ name (now (list .exit) .memory) ≡ name (now (list .entry) .memory) ⌝ }
+        ensures stores { λ r. ⌜ made r (λ _. (recording (N·Name .kind) (N·Name .width) (named-by (listed (N·Name .bits) (now (now (list .exit) .memory)) (now (list .exit) .count)) (string (now (self .exit)))) ≡ now (bytes .entry)) × (all-named (length (listed (N·Name .bits) (now (now (list .exit) .memory)) (now (list .exit) .count))) (string (now (self .exit))) ≡ true)) ⌝ }
     {
         self.len = 0;
         let count = decode(bytes, list, &mut self.codes)?;

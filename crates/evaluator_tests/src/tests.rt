@@ -60,7 +60,13 @@ fn put_up_to_the_limit() -> Result<(), Fail> {
 #[test]
 fn figures_of_the_sample() -> Result<(), Fail> {
     let trial = sample();
-    let rows = [(12, 12, 12, 12), (12, 9, 6, 11), (10, 7, 4, 7), (8, 6, 3, 6), (5, 5, 1, 5)];
+    let rows = [
+        (12, 12, 12, 12),
+        (12, 9, 6, 11),
+        (10, 7, 4, 7),
+        (8, 6, 3, 6),
+        (5, 5, 1, 5),
+    ];
     for (i, row) in rows.iter().enumerate() {
         let frames = (i as u32).saturating_add(1);
         check_eq(pair(trial.figures('L', frames)).0, row.0)?;

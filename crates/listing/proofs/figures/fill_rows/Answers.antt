@@ -46,5 +46,5 @@ returns c =
     record {
       answer = ap Ok (c .loop-i .kept .rows);
       rows = fill-by-all (λ k. row-of (string (c .args .trial .now)) (k + 1)) (c .loop-i .rows) (length (c .args .rows .now)) no-row (c .loop-i .kept .rows)
-      (λ j h. c .loop-i .inv j (omega (arith, h, c .loop-i-test .left)));
+          (λ j h. c .loop-i .inv j (omega (arith, h, c .loop-i-test .left)));
     }

@@ -18,9 +18,10 @@ loop-i-holds c = (sym (ap length lines-none), omega arith)
 
 pub loop-i-again : need.loop-i-again
 loop-i-again c =
-    let e = lines-more (c .args .rows .now) (c .loop-i .i) (c .loop-i-test .taken) in
-    (ap (λ (n : ℕ). n + c .text-len-size .result) (c .loop-i .inv .0) ∙ ap (λ (n : ℕ). length (lines (take (c .loop-i .i) (c .args .rows .now))) + n) (c .text-len-size .ensures .value) ∙ sym (ap length e ∙ length-append _ _),
-     omega (arith, c .loop-i .inv .1, c .text-len-size .ensures .bound))
+    let e = lines-more (c .args .rows .now) (c .loop-i .i) (c .loop-i-test .taken) in (
+      ap (λ (n : ℕ). n + c .text-len-size .result) (c .loop-i .inv .0) ∙ ap (λ (n : ℕ). length (lines (take (c .loop-i .i) (c .args .rows .now))) + n) (c .text-len-size .ensures .value) ∙ sym (ap length e ∙ length-append _ _),
+      omega (arith, c .loop-i .inv .1, c .text-len-size .ensures .bound),
+    )
 
 pub returns : need.returns
 returns c =

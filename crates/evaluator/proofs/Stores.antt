@@ -1,0 +1,89 @@
+-- What was loaded is what will be stored. Assumes nothing.
+use mathlib.Core.Path.{_≡_, refl, ap, sym, subst, _∙_}
+use mathlib.Core.Bool.{Bool, true, false, cond}
+use mathlib.Core.List.{List, [], _∷_, _++_, map}
+use mathlib.Core.Logic.{_⊎_, inl, inr}
+use Prim.Native.Nat.{ℕ, zero, suc, _+_, _-_, _^_, _≤_, _<_}
+use native.Mathlib.Omega.{arith}
+use lib.ListN.{length, getD, take, drop}
+use Rattle.std.specs.declared.result.Result.{Result}
+use Rattle.std.specs.declared.result.Result.the-variants.{Ok, Err}
+use Rattle.std.proofs.shelf.Lists.{length-append, length-drop, length-map, length-push, take-at, getD-push, getD-append-left}
+use Rattle.std.proofs.shelf.Tests.{cases-bool, cases-lt}
+use Rattle.recording.specs.declared.fault.LoadFault.{LoadFault}
+use Rattle.recording.specs.Coding.{codes-of, coded-answer, decoded, learnt, names-in, names-laid, names-of, names-recorded, with-records}
+use Rattle.recording.specs.Lists.{adds, limit-of, listed, with-name}
+use Rattle.recording.specs.Reading.{and-then, laid-out}
+use Rattle.recording.specs.Standing.{Below}
+use Rattle.recording.specs.Writing.{all-named, named-by, recording}
+use Rattle.recording.proofs.Codes.{codes-stand, learnt-within}
+use Rattle.recording.proofs.Progress.{learnt-more, learnt-none, listed-is}
+use Rattle.recording.proofs.Recorded.{names-below}
+use Rattle.recording.proofs.Stored.{stored-as-loaded}
+
+below-push : (n : ℕ) (xs : List ℕ) (x : ℕ) → Below n xs → x < n → Below n (xs ++ x ∷ [])
+below-push n xs x b l i h = go (cases-lt i (length xs))
+  where
+    go : (i < length xs) ⊎ (length xs ≤ i) → getD (xs ++ x ∷ []) i 0 < n
+    go (inl q) = rw (getD-append-left xs (x ∷ []) 0 i q) (b i q)
+    go (inr q) = let e : length xs ≡ i = omega (arith, length-push xs x) in rw (getD-push xs x 0 i e) l
+
+learnt-below : (n limit : ℕ) (ns ms : List ℕ) → Below n ns → Below n ms → Below n (learnt limit ns ms)
+learnt-below n limit ns [] b c = rw (learnt-none limit ns) b
+learnt-below n limit ns (m ∷ ms) b c =
+    rw (learnt-more limit ns m ms) (learnt-below n limit (with-name limit ns m) ms (go (cases-bool (adds limit ns m))) (λ i h. c (suc i) (omega arith)))
+  where
+    go : (adds limit ns m ≡ true) ⊎ (adds limit ns m ≡ false) → Below n (with-name limit ns m)
+    go (inl t) = rw t (below-push n ns m b (c 0 (omega arith)))
+    go (inr t) = rw t b
+
+module _ {X : Type 0} (bits : X → ℕ) (make : ℕ → X) (n : ℕ) (back : (m : ℕ) → m < n → bits (make m) ≡ m) where
+  bits-made : (ns : List ℕ) → Below n ns → map bits (map make ns) ≡ ns
+  bits-made [] b = refl
+  bits-made (m ∷ ms) b =
+      ap (λ (k : ℕ). k ∷ map bits (map make ms)) (back m (b 0 (omega arith))) ∙ ap (λ (ks : List ℕ). m ∷ ks) (bits-made ms (λ i h. b (suc i) (omega arith)))
+
+  -- a list whose memory has the records of ns in front has the names ns
+  listed-records : (ns : List ℕ) (memory : List X) → Below n ns → length ns ≤ limit-of (length memory) →
+      listed bits (with-records make ns memory) (length ns) ≡ ns
+  listed-records ns memory b h =
+      let m : length (map make ns) ≡ length ns = length-map ns make in
+      let whole : length (with-records make ns memory) ≡ length memory =
+      length-append (map make ns) (drop (length ns) memory) ∙ omega (arith, m, length-drop (length ns) memory) in
+      let fits : length ns ≤ limit-of (length (with-records make ns memory)) = subst (λ (k : ℕ). length ns ≤ limit-of k) (sym whole) h in
+      listed-is bits (with-records make ns memory) (length ns) fits
+      ∙ ap (map bits) (take-at (map make ns) (drop (length ns) memory) (length ns) m) ∙ bits-made ns b
+
+never : {Y : Type 0} (n : ℕ) (e : LoadFault) → _≡_ {A = Result ℕ LoadFault} (Err e) (Ok n) → Y
+never n e q = let z : _≡_ {A = ℕ} 0 1 = cc in absurd (omega arith)
+
+-- an accepted recording is laid out
+laid-of : (kind width places : ℕ) (bytes : List ℕ) (count : ℕ) (r : Result ℕ LoadFault) → r ≡ laid-out kind width bytes →
+    and-then r (λ n. coded-answer (codes-of (limit-of places) (names-in width bytes n))) ≡ Ok count →
+    (n : ℕ) × (laid-out kind width bytes ≡ Ok n) × (names-recorded kind width bytes ≡ names-in width bytes n)
+laid-of kind width places bytes count (Ok n) e h = (n, sym e, ap (names-laid width bytes) (sym e))
+laid-of kind width places bytes count (Err x) e h = never count x h
+
+-- the recording of the string and the list that a load leaves is the one that was loaded, and every code has a name
+pub load-stores : {X : Type 0} (bits : X → ℕ) (make : ℕ → X) (kind width : ℕ) → kind < 4 → 1 ≤ width → ((m : ℕ) → m < 2 ^ width → bits (make m) ≡ m) →
+    (memory memory′ : List X) (k count : ℕ) (bytes cs : List ℕ) → Below 256 bytes →
+    decoded kind width (length memory) bytes ≡ Ok count →
+    codes-of (limit-of (length memory)) (names-recorded kind width bytes) ≡ Ok cs →
+    memory′ ≡ with-records make (names-of (limit-of (length memory)) (names-recorded kind width bytes)) memory →
+    k ≡ length (names-of (limit-of (length memory)) (names-recorded kind width bytes)) →
+    (recording kind width (named-by (listed bits memory′ k) cs) ≡ bytes) × (all-named (length (listed bits memory′ k)) cs ≡ true)
+load-stores {X} bits make kind width mark some back memory memory′ k count bytes cs low d coded em ek =
+    let limit = limit-of (length memory) in
+    let l = laid-of kind width (length memory) bytes count (laid-out kind width bytes) refl d in
+    let n = l .0 in
+    let names = names-in width bytes n in
+    let coded′ : codes-of limit names ≡ Ok cs = subst (λ (ms : List ℕ). codes-of limit ms ≡ Ok cs) (l .2) coded in
+    let em′ : memory′ ≡ with-records make (names-of limit names) memory = subst (λ (ms : List ℕ). memory′ ≡ with-records make (names-of limit ms) memory) (l .2) em in
+    let ek′ : k ≡ length (names-of limit names) = subst (λ (ms : List ℕ). k ≡ length (names-of limit ms)) (l .2) ek in
+    let list : listed bits memory′ k ≡ names-of limit names =
+    ap (λ (xs : List X). listed bits xs k) em′ ∙ ap (listed bits (with-records make (names-of limit names) memory)) ek′
+    ∙ listed-records bits make (2 ^ width) back (names-of limit names) memory
+    (learnt-below (2 ^ width) limit [] names (λ i h. absurd (omega arith)) (names-below width bytes n)) (learnt-within limit [] names (omega arith)) in (
+      ap (λ (ns : List ℕ). recording kind width (named-by ns cs)) list ∙ stored-as-loaded kind width mark some bytes n limit cs low (l .1) coded′,
+      ap (λ (ns : List ℕ). all-named (length ns) cs) list ∙ codes-stand limit names cs coded′ .named,
+    )
