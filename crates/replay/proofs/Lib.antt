@@ -1,0 +1,2 @@
+-- The laws of the crate's own pager.
+mod Flushes

@@ -1,0 +1,2 @@
+-- What the crate's own pager means.
+pub mod Flush

@@ -1,0 +1,10 @@
+//! Replays strings in the plainest way, and compares what the evaluator answers with what it counts itself.
+mod flush;
+mod plain;
+mod random;
+mod rankings;
+use std::error::AnyError;
+
+fn main(rt: LibcRuntime) -> Result<(), AnyError> {
+    Ok(())
+}
