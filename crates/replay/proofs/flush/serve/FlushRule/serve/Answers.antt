@@ -36,7 +36,11 @@ returns-then-contains c =
     }
 
 pub ghost-self : need.ghost-self
-ghost-self c = ?
+ghost-self c =
+    let x = getD (c .args .row .now) 0 0 in
+    let e : pages (c .insert .last .self) ≡ with-page x nothing = c .insert .ensures ∙ ap (with-page x) (c .new-new .ensures) in
+    let f = c .args .self .now .frames in
+    (omega (arith, ap size e, alone-fits (frames-of f) x (f .some)), tt)
 
 pub returns : need.returns
 returns c =
@@ -45,7 +49,7 @@ returns c =
     let row = c .args .row .now in
     let x = getD row 0 0 in
     let out : M x ≡ false = sym (c .contains .ensures) ∙ c .if-contains .left in
-    let e : N ≡ with-page x nothing = c .insert .ensures ∙ ap (with-page x) (c .new .ensures) in
+    let e : N ≡ with-page x nothing = c .insert .ensures ∙ ap (with-page x) (c .new-new .ensures) in
     record {
       moves = stepped-first flush-step itself N M row (omega (arith, c .if-row-eq0 .left)) (e ∙ sym (flush-fault x (drop 1 row) M out));
       frames = refl;
