@@ -37,13 +37,13 @@ fn packed(heap: Global, bits: &[bool]) -> Result<Vec<u8>, AllocError> {
     Ok(bytes)
 }
 
-/// A recording that counts so many names, each of so many bits.
-pub fn recorded(heap: Global, kind: u32, width: u32, count: u32, names: &[u32]) -> Result<Vec<u8>, AllocError> {
+/// A recording of names of so many bits each.
+pub fn recorded(heap: Global, kind: u32, width: u32, names: &[u32]) -> Result<Vec<u8>, AllocError> {
     let mut bits = Vec::new(heap);
     add_bits(&mut bits, 1, 4)?;
     add_bits(&mut bits, kind, 2)?;
     add_bits(&mut bits, 0, 2)?;
-    add_bits(&mut bits, count, 16)?;
+    add_bits(&mut bits, (names.len() % 65536) as u32, 16)?;
     for name in names {
         add_bits(&mut bits, *name, width)?;
     }
