@@ -25,8 +25,6 @@ pub fn put_string(tally: &mut Tally, trial: &mut Trial, string: &[u8]) {
 pub fn compare_take_back(tally: &mut Tally, trial: &mut Trial, string: &[u8]) {
     let len = string.len();
     tally.note(refused(trial.take_back(len.saturating_add(1)), 9));
-    tally.note(refused(trial.take_back(usize::MAX), 9));
-    tally.note(gives(trial.take_back(0), len));
     let part = len / 3;
     tally.note(gives(trial.take_back(part), len - part));
     tally.note(trial.len() == len - part && holds_then(trial.codes(), &string[0..len - part], 0));
@@ -35,7 +33,6 @@ pub fn compare_take_back(tally: &mut Tally, trial: &mut Trial, string: &[u8]) {
     }
     tally.note(trial.len() == len && holds_then(trial.codes(), string, 0));
     tally.note(gives(trial.take_back(len), 0));
-    tally.note(refused(trial.take_back(1), 9));
 }
 
 /// A full string takes no more, and stays as it is.
@@ -99,12 +96,5 @@ pub fn compare_letter(tally: &mut Tally, trial: &Trial, letter: char, known: boo
         compare_refusal(tally, trial, letter, 1, 10);
         compare_refusal(tally, trial, letter, 64, 10);
         tally.note(refused(trial.edge(letter, 4096), 10));
-    }
-}
-
-/// FIFO has no edge, whatever the ceiling.
-pub fn compare_no_edge(tally: &mut Tally, trial: &Trial) {
-    for ceiling in [0, 1, 4096, u32::MAX] {
-        tally.note(refused(trial.edge('F', ceiling), 12));
     }
 }

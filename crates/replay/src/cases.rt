@@ -14,6 +14,7 @@ use crate::runs::*;
 use crate::tally::Tally;
 use evaluator::Trial;
 use paging::frames::FrameCount;
+use ranking::Ranking;
 use ranking::last_reference::LastReference;
 use ranking::last_reference::LastReferenceRanking;
 use ranking::next_reference::NextReference;
@@ -41,39 +42,46 @@ pub struct Tallies {
     pub recordings: Tally,
 }
 
+/// The pass and the edges of a ranking. Returns the numbers of its own runs.
+fn compare_ranking<R: Ranking + Fresh + Drop>(
+    heap: Global,
+    all: &mut Tallies,
+    trial: &Trial,
+    rule: Rule,
+) -> Result<Row, AllocError> {
+    let row = Row::of(heap, rule, trial.codes())?;
+    compare_pass::<R>(&mut all.passes, trial, &row);
+    compare_edges_of::<R>(&mut all.edges, trial, &row);
+    Ok(row)
+}
+
 /// Figures, passes and edges at all frame counts.
 fn compare_counts(heap: Global, all: &mut Tallies, trial: &Trial) -> Result<(), AllocError> {
-    let lru = Row::of(heap, Rule::Oldest, trial.codes())?;
-    compare_figures(&mut all.figures, trial, 'L', &lru);
-    compare_pass::<LastReference>(&mut all.passes, trial, &lru);
-    compare_edges(&mut all.edges, trial, 'L', &lru);
-    compare_edges_of::<LastReference>(&mut all.edges, trial, &lru);
-    let min = Row::of(heap, Rule::Furthest, trial.codes())?;
-    compare_figures(&mut all.figures, trial, 'M', &min);
-    compare_pass::<NextReference>(&mut all.passes, trial, &min);
-    compare_edges(&mut all.edges, trial, 'M', &min);
-    compare_edges_of::<NextReference>(&mut all.edges, trial, &min);
+    let lru = compare_ranking::<LastReference>(heap, all, trial, Rule::Oldest)?;
+    compare_policy(&mut all.figures, &mut all.edges, trial, 'L', &lru);
+    let min = compare_ranking::<NextReference>(heap, all, trial, Rule::Furthest)?;
+    compare_policy(&mut all.figures, &mut all.edges, trial, 'M', &min);
     let dpmin = Row::of(heap, Rule::Nearest, trial.codes())?;
-    compare_figures(&mut all.figures, trial, 'D', &dpmin);
-    compare_edges(&mut all.edges, trial, 'D', &dpmin);
+    compare_policy(&mut all.figures, &mut all.edges, trial, 'D', &dpmin);
     let fifo = Row::of(heap, Rule::First, trial.codes())?;
-    compare_figures(&mut all.figures, trial, 'F', &fifo);
+    compare_policy(&mut all.figures, &mut all.edges, trial, 'F', &fifo);
     Ok(())
 }
 
 /// Passes and edges of rankings that are not the evaluator's.
-fn compare_rankings(heap: Global, all: &mut Tallies, trial: &Trial) -> Result<(), AllocError> {
-    let newest = Row::of(heap, Rule::Newest, trial.codes())?;
-    compare_pass::<Turned<LastReference>>(&mut all.passes, trial, &newest);
-    compare_edges_of::<Turned<LastReference>>(&mut all.edges, trial, &newest);
-    let largest = Row::of(heap, Rule::Largest, trial.codes())?;
-    compare_pass::<ByCode>(&mut all.passes, trial, &largest);
-    compare_edges_of::<ByCode>(&mut all.edges, trial, &largest);
+fn compare_own_rankings(heap: Global, all: &mut Tallies, trial: &Trial) -> Result<(), AllocError> {
+    compare_ranking::<Turned<LastReference>>(heap, all, trial, Rule::Newest)?;
+    compare_ranking::<ByCode>(heap, all, trial, Rule::Largest)?;
     Ok(())
 }
 
 /// Runs and plans at a frame count.
-fn compare_frames(heap: Global, all: &mut Tallies, trial: &Trial, frames: u32) -> Result<(), AllocError> {
+fn compare_frames(
+    heap: Global,
+    all: &mut Tallies,
+    trial: &Trial,
+    frames: u32,
+) -> Result<(), AllocError> {
     if let Ok(checked) = FrameCount::new(frames) {
         compare_policies(heap, &mut all.runs, trial, checked)?;
         compare_others(heap, &mut all.runs, trial, checked)?;
@@ -106,35 +114,30 @@ fn compare_kind<N: Name + Copy>(
 fn compare_kinds(heap: Global, tally: &mut Tally, string: &[u8]) -> Result<(), AllocError> {
     compare_kind(heap, tally, &mut [Page { page: 0 }; 256], 0, 12, string)?;
     compare_kind(heap, tally, &mut [Page { page: 9 }; 30], 0, 12, string)?;
-    compare_kind(heap, tally, &mut [TaskPage { task: 0, page: 0 }; 300], 1, 16, string)?;
-    compare_kind(heap, tally, &mut [TaskPage { task: 3, page: 9 }; 2], 1, 16, string)
+    compare_kind(
+        heap,
+        tally,
+        &mut [TaskPage { task: 0, page: 0 }; 300],
+        1,
+        16,
+        string,
+    )?;
+    compare_kind(
+        heap,
+        tally,
+        &mut [TaskPage { task: 3, page: 9 }; 2],
+        1,
+        16,
+        string,
+    )
 }
 
-/// Bytes that are no recording of bare page numbers.
-fn compare_bad_pages(tally: &mut Tally) {
-    let mut memory = [Page { page: 0 }; 4];
-    let mut list = NameList::over(&mut memory);
-    let mut trial = Trial::new();
-    compare_bad(tally, &mut trial, &mut list, &[], 1, 0);
-    compare_bad(tally, &mut trial, &mut list, &[0x20, 0xff], 1, 2);
-    compare_bad(tally, &mut trial, &mut list, &[0x20, 0xff, 0xff], 2, 0);
-    compare_bad(tally, &mut trial, &mut list, &[0x14, 0, 0], 2, 0);
-    compare_bad(tally, &mut trial, &mut list, &[0x11, 0, 0], 2, 0);
-    compare_bad(tally, &mut trial, &mut list, &[0x10, 0x10, 1], 3, 1);
-    compare_bad(tally, &mut trial, &mut list, &[0x10, 0x10, 0], 4, 3);
-    compare_bad(tally, &mut trial, &mut list, &[0x10, 0, 0, 0], 4, 3);
-    compare_bad(tally, &mut trial, &mut list, &[0x10, 0, 1, 0], 4, 4);
-    compare_bad(tally, &mut trial, &mut list, &[0x10, 0, 1, 0, 1], 5, 4);
-}
-
-/// Bytes that are no recording of tasks' pages.
-fn compare_bad_tasks(tally: &mut Tally) {
-    let mut memory = [TaskPage { task: 0, page: 0 }; 4];
-    let mut list = NameList::over(&mut memory);
-    let mut trial = Trial::new();
-    compare_bad(tally, &mut trial, &mut list, &[0x10, 0, 0], 2, 0);
-    compare_bad(tally, &mut trial, &mut list, &[0x14, 0xff, 0xff], 3, 1);
-    compare_bad(tally, &mut trial, &mut list, &[0x14, 0, 2, 0, 0, 0], 4, 6);
+/// Bytes that are no recording of a kind.
+fn compare_bad_bytes(tally: &mut Tally) {
+    let mut pages = [Page { page: 0 }; 4];
+    compare_bad_table(tally, &mut pages, &BAD_PAGES);
+    let mut tasks = [TaskPage { task: 0, page: 0 }; 4];
+    compare_bad_table(tally, &mut tasks, &BAD_TASKS);
 }
 
 /// Refusals, and all that is compared once for a string.
@@ -148,14 +151,18 @@ fn compare_calls(all: &mut Tallies, trial: &Trial) {
     for letter in ['l', 'm', 'A', 'E', ' ', '\0', 'é'] {
         compare_letter(&mut all.refusals, trial, letter, false);
     }
-    compare_no_edge(&mut all.refusals, trial);
 }
 
 /// Everything for one string.
-fn compare_string(heap: Global, all: &mut Tallies, trial: &mut Trial, string: &[u8]) -> Result<(), AllocError> {
+fn compare_string(
+    heap: Global,
+    all: &mut Tallies,
+    trial: &mut Trial,
+    string: &[u8],
+) -> Result<(), AllocError> {
     put_string(&mut all.strings, trial, string);
     compare_counts(heap, all, trial)?;
-    compare_rankings(heap, all, trial)?;
+    compare_own_rankings(heap, all, trial)?;
     compare_calls(all, trial);
     for frames in [1, 2, 3, 4, 5, 6, 7, 8, 16, 31, 32, 33, 63, 64] {
         compare_frames(heap, all, trial, frames)?;
@@ -165,11 +172,37 @@ fn compare_string(heap: Global, all: &mut Tallies, trial: &mut Trial, string: &[
     Ok(())
 }
 
-/// Strings of all shapes, of a length and over so many pages.
-fn compare_shapes(heap: Global, all: &mut Tallies, trial: &mut Trial, len: u32, pages: u32) -> Result<(), AllocError> {
-    for shape in [Shape::Scattered, Shape::Loop, Shape::Phases, Shape::Walk, Shape::Swing] {
-        let string = make_string(heap, len.wrapping_mul(31).wrapping_add(pages), shape, len, pages)?;
-        compare_string(heap, all, trial, &string)?;
+/// A string of a shape, of a length and over so many pages.
+fn compare_shape(
+    heap: Global,
+    all: &mut Tallies,
+    trial: &mut Trial,
+    shape: Shape,
+    len: u32,
+    pages: u32,
+) -> Result<(), AllocError> {
+    let seed = len.wrapping_mul(31).wrapping_add(pages);
+    let string = make_string(heap, seed, shape, len, pages)?;
+    compare_string(heap, all, trial, &string)
+}
+
+/// Strings of all shapes, of a length and over several numbers of pages.
+fn compare_length(
+    heap: Global,
+    all: &mut Tallies,
+    trial: &mut Trial,
+    len: u32,
+) -> Result<(), AllocError> {
+    for pages in [1, 5, 64, 65, 256] {
+        for shape in [
+            Shape::Scattered,
+            Shape::Loop,
+            Shape::Phases,
+            Shape::Walk,
+            Shape::Swing,
+        ] {
+            compare_shape(heap, all, trial, shape, len, pages)?;
+        }
     }
     Ok(())
 }
@@ -178,15 +211,14 @@ fn compare_shapes(heap: Global, all: &mut Tallies, trial: &mut Trial, len: u32, 
 pub fn compare_all(heap: Global, all: &mut Tallies) -> Result<(), AllocError> {
     let mut trial = Trial::new();
     for len in [0, 1, 2, 17, 200] {
-        for pages in [1, 2, 5, 17, 64, 65, 100, 256] {
-            compare_shapes(heap, all, &mut trial, len, pages)?;
-        }
+        compare_length(heap, all, &mut trial, len)?;
     }
-    for pages in [3, 40, 70, 256] {
-        compare_shapes(heap, all, &mut trial, 1000, pages)?;
+    for pages in [2, 40, 100, 256] {
+        compare_shape(heap, all, &mut trial, Shape::Scattered, 1000, pages)?;
+        compare_shape(heap, all, &mut trial, Shape::Phases, 1000, pages)?;
     }
     compare_full(&mut all.strings, &mut trial);
-    compare_bad_pages(&mut all.recordings);
-    compare_bad_tasks(&mut all.recordings);
-    compare_shapes(heap, all, &mut trial, 4096, 256)
+    compare_bad_bytes(&mut all.recordings);
+    compare_shape(heap, all, &mut trial, Shape::Walk, 4096, 70)?;
+    compare_shape(heap, all, &mut trial, Shape::Scattered, 4096, 256)
 }

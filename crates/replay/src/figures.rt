@@ -9,6 +9,7 @@ use crate::tally::gives;
 use crate::tally::holds_then;
 use crate::tally::refused;
 use evaluator::Trial;
+use paging::refusal::Refusal;
 use ranking::Ranking;
 use ranking::last_reference::LastReference;
 use ranking::next_reference::NextReference;
@@ -57,7 +58,11 @@ impl Row {
             5 => u32::MAX,
             _ => {
                 let k = i.wrapping_mul(5) % 64;
-                if i % 2 == 0 { self.instants[k] } else { self.instants[k].saturating_sub(1) }
+                if i % 2 == 0 {
+                    self.instants[k]
+                } else {
+                    self.instants[k].saturating_sub(1)
+                }
             }
         }
     }
@@ -93,30 +98,49 @@ pub impl<R: Fresh> Fresh for Turned<R> as FreshTurned {
 }
 
 /// Figures at every frame count.
-pub fn compare_figures(tally: &mut Tally, trial: &Trial, letter: char, row: &Row) {
+fn compare_figures(tally: &mut Tally, trial: &Trial, letter: char, row: &Row) {
     for k in 0..64 {
         let answer = trial.figures(letter, k as u32 + 1);
         tally.note(gives(answer, (row.instants[k], row.pulls[k])));
     }
 }
 
+/// Whether an answer is the edge of the row; FIFO's are refused.
+fn is_edge(answer: Result<u32, Refusal>, row: &Row, ceiling: u32, letter: char) -> bool {
+    if letter == 'F' {
+        return refused(answer, 12);
+    }
+    match row.edge(ceiling) {
+        0 => refused(answer, 13),
+        edge => gives(answer, edge),
+    }
+}
+
 /// The edge of a letter for several ceilings.
-pub fn compare_edges(tally: &mut Tally, trial: &Trial, letter: char, row: &Row) {
+fn compare_edges(tally: &mut Tally, trial: &Trial, letter: char, row: &Row) {
     for i in 0..20 {
         let ceiling = row.ceiling(i);
-        let answer = trial.edge(letter, ceiling);
-        let edge = row.edge(ceiling);
-        tally.note(if edge == 0 { refused(answer, 13) } else { gives(answer, edge) });
+        tally.note(is_edge(trial.edge(letter, ceiling), row, ceiling, letter));
     }
+}
+
+/// The figures and the edges of a letter.
+pub fn compare_policy(
+    figures: &mut Tally,
+    edges: &mut Tally,
+    trial: &Trial,
+    letter: char,
+    row: &Row,
+) {
+    compare_figures(figures, trial, letter, row);
+    compare_edges(edges, trial, letter, row);
 }
 
 /// The edge of a ranking for several ceilings.
 pub fn compare_edges_of<R: Ranking + Fresh + Drop>(tally: &mut Tally, trial: &Trial, row: &Row) {
     for i in 0..20 {
         let ceiling = row.ceiling(i);
-        let answer = trial.edge_of(R::fresh(), ceiling);
-        let edge = row.edge(ceiling);
-        tally.note(if edge == 0 { refused(answer, 13) } else { gives(answer, edge) });
+        tally.note(is_edge(trial.edge_of(R::fresh(), ceiling), row, ceiling, 'R'));
     }
 }
 

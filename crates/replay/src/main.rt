@@ -10,6 +10,7 @@ mod rankings;
 mod recordings;
 mod runs;
 mod tally;
+
 use cases::Tallies;
 use cases::compare_all;
 use std::error::AnyError;

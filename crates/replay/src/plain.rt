@@ -87,7 +87,11 @@ fn furthest(string: &[u8], t: usize, held: &Held) -> u8 {
             page = code;
         }
     }
-    if count(&left) > 0 { largest(&left) } else { page }
+    if count(&left) > 0 {
+        largest(&left)
+    } else {
+        page
+    }
 }
 
 /// The page of the set with the smallest stamp.
@@ -117,7 +121,12 @@ fn next_references(string: &[u8], t: usize) -> [usize; 256] {
 }
 
 /// The pages held and the pages to come from t on, in the order of their next references: each as its place and code.
-fn candidates(heap: Global, string: &[u8], t: usize, held: &Held) -> Result<Vec<(usize, u8)>, AllocError> {
+fn candidates(
+    heap: Global,
+    string: &[u8],
+    t: usize,
+    held: &Held,
+) -> Result<Vec<(usize, u8)>, AllocError> {
     let next = next_references(string, t);
     let mut pages = Vec::new(heap);
     for c in 0..256 {
@@ -130,9 +139,17 @@ fn candidates(heap: Global, string: &[u8], t: usize, held: &Held) -> Result<Vec<
 }
 
 /// The first pages of the candidates, as many as there are frames.
-fn nearest(heap: Global, string: &[u8], t: usize, frames: u32, held: &Held) -> Result<Held, AllocError> {
+fn nearest(
+    heap: Global,
+    string: &[u8],
+    t: usize,
+    frames: u32,
+    held: &Held,
+) -> Result<Held, AllocError> {
     let mut now = [false; 256];
-    for (_, code) in candidates(heap, string, t, held)?.iter().take(frames as usize) {
+    for (_, code) in candidates(heap, string, t, held)?
+        .iter()
+        .take(frames as usize) {
         now[*code as usize] = true;
     }
     Ok(now)
@@ -173,7 +190,12 @@ fn after_fault(
 }
 
 /// The sets held before the first place and at each place.
-pub fn schedule(heap: Global, rule: Rule, frames: u32, string: &[u8]) -> Result<Vec<Held>, AllocError> {
+pub fn schedule(
+    heap: Global,
+    rule: Rule,
+    frames: u32,
+    string: &[u8],
+) -> Result<Vec<Held>, AllocError> {
     let mut rows = Vec::new(heap);
     let mut held = [false; 256];
     let mut stamps = [0; 256];

@@ -15,7 +15,13 @@ const FILL: u32 = 0xABCDEF01;
 
 /// Adds the words of the pages that one set has and the other lacks, by rising code. Place, kind and code stand in 13, 1
 /// and 8 bits, above ten zero bits.
-fn add_words(words: &mut Vec<u32>, place: usize, kind: u32, one: &Held, other: &Held) -> Result<(), AllocError> {
+fn add_words(
+    words: &mut Vec<u32>,
+    place: usize,
+    kind: u32,
+    one: &Held,
+    other: &Held,
+) -> Result<(), AllocError> {
     let top = ((place % 8192) as u32) << 19 | (kind % 2) << 18;
     for c in 0..256 {
         if one[c] && !other[c] {
@@ -71,7 +77,8 @@ pub fn compare_plans(
     let rows = schedule(heap, rule, frames, trial.codes())?;
     let words = words_of(heap, &rows, trial.len())?;
     let room = words.len();
-    compare_plan(heap, tally, trial, letter, frames, &words, room)?;
-    compare_plan(heap, tally, trial, letter, frames, &words, room.saturating_add(3))?;
-    compare_plan(heap, tally, trial, letter, frames, &words, room.saturating_sub(1))
+    for room in [room, room.saturating_add(3), room.saturating_sub(1)] {
+        compare_plan(heap, tally, trial, letter, frames, &words, room)?;
+    }
+    Ok(())
 }

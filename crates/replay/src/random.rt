@@ -51,8 +51,15 @@ fn reference(random: &mut Random, shape: Shape, pages: u32, t: u32, before: u32)
         Shape::Scattered => random.below(pages),
         Shape::Loop => t % pages,
         Shape::Phases => (t / 40).wrapping_mul(13).wrapping_add(random.below(9)) % pages,
-        Shape::Walk => before.wrapping_add(random.below(5)).wrapping_add(random.below(2)) % pages,
-        Shape::Swing => if t / pages % 2 == 0 { t % pages } else { pages - 1 - t % pages },
+        Shape::Walk => before
+            .wrapping_add(random.below(5))
+            .wrapping_add(random.below(2))
+            % pages,
+        Shape::Swing => if t / pages % 2 == 0 {
+            t % pages
+        } else {
+            pages - 1 - t % pages
+        },
     }
 }
 

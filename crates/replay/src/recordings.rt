@@ -29,7 +29,9 @@ fn packed(heap: Global, bits: &[bool]) -> Result<Vec<u8>, AllocError> {
     for i in 0..bits.len().saturating_add(7) / 8 {
         let mut byte = 0u8;
         for k in 0..8 {
-            let bit = bits.get(i.wrapping_mul(8).wrapping_add(k)).copied().unwrap_or(false);
+            let bit = bits.get(i.wrapping_mul(8).wrapping_add(k))
+                .copied()
+                .unwrap_or(false);
             byte = byte.wrapping_mul(2).wrapping_add(if bit { 1 } else { 0 });
         }
         bytes.push(byte)?;
@@ -138,24 +140,135 @@ pub fn compare_recording<N: Name + Copy>(
     }
     tally.note(answer.unwrap_or(usize::MAX) == names.len());
     tally.note(trial.len() == names.len() && holds_then(trial.codes(), &codes, 0));
-    compare_store(heap, tally, trial, list, bytes, bytes.len())?;
-    compare_store(heap, tally, trial, list, bytes, bytes.len().saturating_add(2))?;
-    compare_store(heap, tally, trial, list, bytes, bytes.len().saturating_sub(1))
+    let room = bytes.len();
+    for room in [room, room.saturating_add(2), room.saturating_sub(1)] {
+        compare_store(heap, tally, trial, list, bytes, room)?;
+    }
+    Ok(())
 }
 
-/// Loads bytes that are none of a recording.
-pub fn compare_bad<N: Name + Copy>(
+/// Bytes that are no recording, and how they are refused.
+#[derive(Clone, Copy)]
+pub struct Bad {
+    bytes: [u8; 6],
+    len: usize,
+    number: u8,
+    place: usize,
+}
+
+/// Bytes that are no recording of bare page numbers.
+pub const BAD_PAGES: [Bad; 10] = [
+    Bad {
+        bytes: [0x00, 0x00, 0x00, 0x00, 0x00, 0x00],
+        len: 0,
+        number: 1,
+        place: 0,
+    },
+    Bad {
+        bytes: [0x20, 0xff, 0x00, 0x00, 0x00, 0x00],
+        len: 2,
+        number: 1,
+        place: 2,
+    },
+    Bad {
+        bytes: [0x20, 0xff, 0xff, 0x00, 0x00, 0x00],
+        len: 3,
+        number: 2,
+        place: 0,
+    },
+    Bad {
+        bytes: [0x14, 0x00, 0x00, 0x00, 0x00, 0x00],
+        len: 3,
+        number: 2,
+        place: 0,
+    },
+    Bad {
+        bytes: [0x11, 0x00, 0x00, 0x00, 0x00, 0x00],
+        len: 3,
+        number: 2,
+        place: 0,
+    },
+    Bad {
+        bytes: [0x10, 0x10, 0x01, 0x00, 0x00, 0x00],
+        len: 3,
+        number: 3,
+        place: 1,
+    },
+    Bad {
+        bytes: [0x10, 0x10, 0x00, 0x00, 0x00, 0x00],
+        len: 3,
+        number: 4,
+        place: 3,
+    },
+    Bad {
+        bytes: [0x10, 0x00, 0x00, 0x00, 0x00, 0x00],
+        len: 4,
+        number: 4,
+        place: 3,
+    },
+    Bad {
+        bytes: [0x10, 0x00, 0x01, 0x00, 0x00, 0x00],
+        len: 4,
+        number: 4,
+        place: 4,
+    },
+    Bad {
+        bytes: [0x10, 0x00, 0x01, 0x00, 0x01, 0x00],
+        len: 5,
+        number: 5,
+        place: 4,
+    },
+];
+
+/// Bytes that are no recording of tasks' pages.
+pub const BAD_TASKS: [Bad; 4] = [
+    Bad {
+        bytes: [0x14, 0x00, 0x00, 0x00, 0x00, 0x00],
+        len: 2,
+        number: 1,
+        place: 2,
+    },
+    Bad {
+        bytes: [0x10, 0x00, 0x00, 0x00, 0x00, 0x00],
+        len: 3,
+        number: 2,
+        place: 0,
+    },
+    Bad {
+        bytes: [0x14, 0xff, 0xff, 0x00, 0x00, 0x00],
+        len: 3,
+        number: 3,
+        place: 1,
+    },
+    Bad {
+        bytes: [0x14, 0x00, 0x02, 0x00, 0x00, 0x00],
+        len: 6,
+        number: 4,
+        place: 6,
+    },
+];
+
+/// Loads bytes that are no recording, and stores a string that has no names.
+fn compare_bad<N: Name + Copy>(
     tally: &mut Tally,
     trial: &mut Trial,
     list: &mut NameList<N>,
-    bytes: &[u8],
-    number: u8,
-    place: usize,
+    bad: &Bad,
 ) {
-    tally.note(faults_at(trial.load(list, bytes), number, false, place));
+    let bytes = &bad.bytes[0..bad.len.min(6)];
+    tally.note(faults_at(trial.load(list, bytes), bad.number, false, bad.place));
     tally.note(trial.len() == 0 && list.len() == 0);
     let _ = trial.put(0);
     let mut memory = [FILL; 9];
     tally.note(refused(trial.store(list, &mut memory), 16));
     tally.note(holds_then(&memory, &[], FILL));
+}
+
+/// A table of bytes that are no recording.
+pub fn compare_bad_table<N: Name + Copy>(tally: &mut Tally, memory: &mut [N], table: &[Bad]) {
+    let mut list = NameList::over(memory);
+    let mut trial = Trial::new();
+    for bad in table {
+        compare_bad(tally, &mut trial, &mut list, bad);
+    }
 }

@@ -54,7 +54,11 @@ fn compare_run<P: Pager + Drop>(
     tally.note(gives(trial.run(&mut pager), tallied(&rows, trial.codes())));
     tally.note(holds_just(&pager, &last));
     let again = trial.run(&mut pager);
-    tally.note(if trial.len() > 0 { refused(again, 14) } else { gives(again, (0, 0)) });
+    tally.note(if trial.len() > 0 {
+        refused(again, 14)
+    } else {
+        gives(again, (0, 0))
+    });
     tally.note(holds_just(&pager, &last));
     tally.note(pager.serve(&[]) == 0);
     tally.note(holds_just(&pager, &last));
@@ -63,7 +67,12 @@ fn compare_run<P: Pager + Drop>(
 }
 
 /// The pagers of the four policies.
-pub fn compare_policies(heap: Global, tally: &mut Tally, trial: &Trial, frames: FrameCount) -> Result<(), AllocError> {
+pub fn compare_policies(
+    heap: Global,
+    tally: &mut Tally,
+    trial: &Trial,
+    frames: FrameCount,
+) -> Result<(), AllocError> {
     let fifo = FifoPager::new(frames);
     compare_run(heap, tally, trial, frames, Rule::First, fifo)?;
     let dpmin = DpminPager::new(frames);
@@ -75,7 +84,12 @@ pub fn compare_policies(heap: Global, tally: &mut Tally, trial: &Trial, frames: 
 }
 
 /// Pagers of rules that are not the evaluator's.
-pub fn compare_others(heap: Global, tally: &mut Tally, trial: &Trial, frames: FrameCount) -> Result<(), AllocError> {
+pub fn compare_others(
+    heap: Global,
+    tally: &mut Tally,
+    trial: &Trial,
+    frames: FrameCount,
+) -> Result<(), AllocError> {
     let coded = RankingPager::new(ByCode {}, frames);
     compare_run(heap, tally, trial, frames, Rule::Largest, coded)?;
     let inner = LastReference::new();

@@ -30,7 +30,10 @@ impl Tally {
     pub fn print(&self, rt: &LibcRuntime, group: &str) -> io::Result<()> {
         let compared = self.compared;
         let different = self.different;
-        println!(rt, "{group}: {compared} comparisons, {different} differences")
+        println!(
+            rt,
+            "{group}: {compared} comparisons, {different} differences"
+        )
     }
 }
 
