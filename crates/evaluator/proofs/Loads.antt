@@ -16,9 +16,9 @@ use Rattle.std.specs.declared.result.Result.the-variants.{Ok, Err}
 use Rattle.paging.specs.declared.refusal.Refusal.the-variants.{TooShort, BadHeader, TooManyReferences, WrongLength, SpareBitsSet}
 use Rattle.recording.specs.declared.fault.LoadFault.{LoadFault}
 use Rattle.recording.specs.Coding.{coded, codes-of, coded-answer, decoded, names-in, names-laid, names-recorded}
-use Rattle.recording.specs.Lists.{limit-of, place-in, known, adds, with-name}
+use Rattle.names.specs.Lists.{limit-of, place-in, known, adds, with-name}
 use Rattle.recording.proofs.Bitwise.{length-numbers}
-use Rattle.recording.proofs.Places.{place-most}
+use Rattle.names.proofs.Places.{place-most}
 use Rattle.recording.proofs.Progress.{coded-more, coded-none}
 use Rattle.recording.specs.Bits.{bit-of}
 use Rattle.recording.specs.Reading.{and-then, asked, bytes-for, by-bytes, counted as counted-in, head, body, laid-out, marked, spare}

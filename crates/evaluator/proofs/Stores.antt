@@ -12,7 +12,7 @@ use Rattle.std.proofs.shelf.Lists.{length-append, length-drop, length-map, leng
 use Rattle.std.proofs.shelf.Tests.{cases-bool, cases-lt}
 use Rattle.recording.specs.declared.fault.LoadFault.{LoadFault}
 use Rattle.recording.specs.Coding.{codes-of, coded-answer, decoded, learnt, names-in, names-laid, names-of, names-recorded, with-records}
-use Rattle.recording.specs.Lists.{adds, limit-of, listed, with-name}
+use Rattle.names.specs.Lists.{adds, limit-of, listed, with-name}
 use Rattle.recording.specs.Reading.{and-then, laid-out}
 use Rattle.recording.specs.Standing.{Below}
 use Rattle.recording.specs.Writing.{all-named, named-by, recording}

@@ -5,7 +5,7 @@ use Rattle.std.specs.declared.result.Result.{Result}
 use Rattle.std.specs.declared.result.Result.the-variants.{Ok, Err}
 use Rattle.paging.specs.Pages.{codes}
 use Rattle.recording.specs.Coding.{codes-of, names-recorded}
-use Rattle.recording.specs.Lists.{limit-of}
+use Rattle.names.specs.Lists.{limit-of}
 use Rattle.evaluator.specs.Strings.{put-string, take-string}
 
 -- a call, accepted or refused: put a code; take back so many; clear; load a recording with a list of so many places,

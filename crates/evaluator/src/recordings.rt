@@ -2,7 +2,7 @@
 ghost use Rattle.evaluator.specs.Histories.{after-call, load};
 ghost use Rattle.evaluator.specs.Strings.{string};
 ghost use Rattle.recording.specs.Coding.{decoded, names-of, names-recorded, with-records};
-ghost use Rattle.recording.specs.Lists.{limit-of, listed};
+ghost use Rattle.names.specs.Lists.{limit-of, listed};
 ghost use Rattle.recording.specs.Writing.{all-named, encoded, named-by, recording, written};
 ghost use Rattle.std.specs.Results.{isOk};
 ghost use Rattle.std.specs.Vec.{made};
@@ -11,12 +11,12 @@ ghost use mathlib.Core.Bool.{cond, true};
 ghost use lib.ListN.{length};
 ghost use mathlib.Core.Path.{_≡_};
 use crate::Trial;
+use names::list::NameList;
+use names::name::Name;
 use paging::refusal::Refusal;
 use recording::decode::decode;
 use recording::encode::encode;
 use recording::fault::LoadFault;
-use recording::list::NameList;
-use recording::names::Name;
 
 impl Trial {
     /// Empties the trial and the list, looks up each name of the recording, and puts its code. Returns the number of references.

@@ -3,12 +3,12 @@ ghost use Rattle.evaluator.specs.Strings.{string};
 ghost use Rattle.listing.specs.Listings.{of-tasks, own-load, own-string};
 ghost use mathlib.Core.Path.{_≡_};
 use evaluator::Trial;
+use names::list::NameList;
+use names::name::Page;
+use names::name::PageName;
+use names::name::TaskPage;
+use names::name::TaskPageName;
 use recording::fault::LoadFault;
-use recording::list::NameList;
-use recording::names::Page;
-use recording::names::PageName;
-use recording::names::TaskPage;
-use recording::names::TaskPageName;
 
 /// Whether the kind that a recording gives is that of tasks with pages.
 fn names_tasks(recording: &[u8]) -> bool

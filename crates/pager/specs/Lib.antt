@@ -1,4 +1,2 @@
-pub mod Tables
 pub mod Prepaging
 pub mod Plans
-pub mod Pagers

@@ -1,12 +1,7 @@
-//! Pagers.
-pub mod dpmin;
-pub mod fifo;
+//! Pagers: the trait, runs and plans.
 pub mod plans;
-pub mod ranked;
 pub mod runs;
-mod sets;
-#[cfg(test)]
-mod tests;
+pub mod sets;
 
 ghost use Prim.Native.Nat.{ℕ};
 ghost use Rattle.paging.specs.Models.{Keeps, PagerModel, served};

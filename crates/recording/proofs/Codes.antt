@@ -11,11 +11,11 @@ use Rattle.std.specs.declared.result.Result.{Result}
 use Rattle.std.specs.declared.result.Result.the-variants.{Ok, Err}
 use Rattle.std.proofs.shelf.Lists.{append-nil, append-assoc, length-push, getD-push, getD-append-left, map-push}
 use Rattle.std.proofs.shelf.Tests.{cases-bool, cases-lt, cond-true, cond-false, and-parts, and-from, and-left, or-parts, not-true, not-from-true, not-from-false, lt-ltb, le-ltb, ltb-true, ltb-false, eqb-true, eq-eqb}
-use Rattle.recording.specs.Lists.{place-in, known, adds, with-name}
+use Rattle.names.specs.Lists.{place-in, known, adds, with-name}
 use Rattle.recording.specs.Coding.{coded, learnt, codes-of, names-of}
 use Rattle.recording.specs.Writing.{named-by, all-named}
 use Rattle.recording.specs.Standing.{Different, Coded}
-use Rattle.recording.proofs.Places.{place-most}
+use Rattle.names.proofs.Places.{place-most}
 
 -- a known name stands at its place
 pub place-get : (ns : List ℕ) (m : ℕ) → place-in ns m < length ns → getD ns (place-in ns m) 0 ≡ m

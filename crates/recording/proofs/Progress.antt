@@ -16,12 +16,12 @@ use Rattle.std.proofs.shelf.Tests.{cases-bool, cond-true, cond-false, and-right
 use Rattle.paging.specs.declared.refusal.Refusal.{Refusal}
 use Rattle.paging.specs.declared.refusal.Refusal.the-variants.{NoPlaceForName}
 use Rattle.recording.specs.Bits.{bit-of, number-at, numbers-at}
-use Rattle.recording.specs.Lists.{place-in, known, adds, with-name, limit-of, look-answer, held, in-list, listed, looked-up, looked-count, looked-memory}
+use Rattle.names.specs.Lists.{place-in, known, adds, with-name, limit-of, look-answer, held, in-list, listed, looked-up, looked-count, looked-memory}
 use Rattle.recording.specs.Coding.{coded, learnt, codes-of, names-of, names-in, coded-answer, with-records, at-place, names-laid, names-recorded, decoded}
 use Rattle.recording.specs.declared.fault.LoadFault.{LoadFault}
 use Rattle.recording.specs.Reading.{by-names, and-then, laid-out}
 use Rattle.recording.proofs.Bitwise.{number-below, bit-below, numbers-more, numbers-none}
-use Rattle.recording.proofs.Places.{length-listed}
+use Rattle.names.proofs.Places.{length-listed}
 
 -- where reading the names of a recording of so many stands after i of them
 pub record Progress {X : Type 0} (f : X → ℕ) (make : ℕ → X) (w : ℕ) (bytes : List ℕ) (count : ℕ) (start : List X) (i at : ℕ) (mem : List X) (k : ℕ) (codes : List ℕ) : Type 0 where

@@ -14,7 +14,7 @@ use Rattle.std.specs.declared.result.Result.{Result}
 use Rattle.std.specs.declared.result.Result.the-variants.{Ok, Err}
 use Rattle.paging.specs.declared.refusal.Refusal.the-variants.{CodeWithoutName, OutputTooShort}
 use Rattle.recording.specs.Bits.{bit-in, bit-of, number-at, numbers-at}
-use Rattle.recording.specs.Lists.{in-list, listed}
+use Rattle.names.specs.Lists.{in-list, listed}
 use Rattle.recording.specs.Reading.{bytes-for}
 use Rattle.recording.specs.Writing.{front-number, recording-bit, recording, named-by, all-named, encoded, written}
 use Rattle.recording.proofs.Bitwise.{length-numbers, numbers-push}

@@ -10,7 +10,7 @@ use Rattle.paging.specs.declared.refusal.Refusal.{Refusal}
 use Rattle.paging.specs.declared.refusal.Refusal.the-variants.{NoPlaceForName}
 use Rattle.recording.specs.declared.fault.LoadFault.{LoadFault}
 use Rattle.recording.specs.Bits.{bit-of, numbers-at}
-use Rattle.recording.specs.Lists.{place-in, known, with-name, limit-of}
+use Rattle.names.specs.Lists.{place-in, known, with-name, limit-of}
 use Rattle.recording.specs.Reading.{by-names, and-then, laid-out}
 
 -- the names ms are looked up one by one in the list ns, and their codes come behind cs; or the place of the one that is refused

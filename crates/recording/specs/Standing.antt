@@ -5,7 +5,7 @@ use mathlib.Core.List.{List}
 use Prim.Native.Nat.{ℕ, _^_, _<_, _≤_}
 use lib.ListN.{length, getD}
 use Rattle.std.specs.declared.result.Result.the-variants.{Ok}
-use Rattle.recording.specs.Lists.{place-in}
+use Rattle.names.specs.Lists.{place-in}
 use Rattle.recording.specs.Reading.{laid-out}
 use Rattle.recording.specs.Coding.{codes-of, names-of, names-in}
 use Rattle.recording.specs.Writing.{recording, named-by, all-named}

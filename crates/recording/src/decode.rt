@@ -2,7 +2,7 @@
 ghost use Prim.Native.Nat.{_+_, _*_, _≤_};
 ghost use Rattle.recording.specs.Bits.{bit-of, number-at};
 ghost use Rattle.recording.specs.Coding.{at-place, codes-of, coded-answer, decoded, names-in, names-of, names-recorded, with-records};
-ghost use Rattle.recording.specs.Lists.{limit-of, looked-count, looked-memory, looked-up};
+ghost use Rattle.names.specs.Lists.{limit-of, looked-count, looked-memory, looked-up};
 ghost use Rattle.recording.specs.Reading.{bytes-for};
 ghost use Rattle.recording.specs.Writing.{all-named};
 ghost use Rattle.std.specs.Results.{isOk};
@@ -15,9 +15,9 @@ ghost use mathlib.Core.Path.{_≡_};
 use crate::fault::Layer;
 use crate::fault::LoadFault;
 use crate::layout::checked_layout;
-use crate::list::NameList;
-use crate::names::Name;
 use crate::reader::Reader;
+use names::list::NameList;
+use names::name::Name;
 
 // The code of the next name that the reader has, which is the one at the place.
 fn next_code<N: Name + Copy>(

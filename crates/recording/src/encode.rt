@@ -1,7 +1,7 @@
 //! Encoding a string: the recording of the names that its codes stand for.
 ghost use Prim.Native.Nat.{ℕ, _*_, _<_, _≤_};
 ghost use Rattle.recording.specs.Bits.{number-at, numbers-at};
-ghost use Rattle.recording.specs.Lists.{in-list, listed};
+ghost use Rattle.names.specs.Lists.{in-list, listed};
 ghost use Rattle.recording.specs.Reading.{bytes-for};
 ghost use Rattle.recording.specs.Writing.{all-named, encoded, named-by, recording, recording-bit, written};
 ghost use lib.ListN.{drop, getD, length};
@@ -9,8 +9,8 @@ ghost use mathlib.Core.Bool.{true};
 ghost use mathlib.Core.List.{_++_, map};
 ghost use mathlib.Core.Path.{_≡_};
 use crate::layout::bytes_for;
-use crate::list::NameList;
-use crate::names::Name;
+use names::list::NameList;
+use names::name::Name;
 use paging::refusal::Refusal;
 
 // Whether each code has a name among so many.

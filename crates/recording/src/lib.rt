@@ -4,6 +4,4 @@ pub mod encode;
 pub mod fault;
 pub mod guarantee;
 mod layout;
-pub mod list;
-pub mod names;
 mod reader;

@@ -1,13 +1,13 @@
 //! Recordings loaded and stored.
+use names::list::NameList;
+use names::name::Page;
+use names::name::PageName;
+use names::name::TaskPage;
+use names::name::TaskPageName;
 use recording::decode::decode;
 use recording::encode::encode;
 use recording::fault::Layer;
 use recording::fault::LoadFault;
-use recording::list::NameList;
-use recording::names::Page;
-use recording::names::PageName;
-use recording::names::TaskPage;
-use recording::names::TaskPageName;
 use std::test::*;
 
 // The refusal's number, 1 for the layer of names, and the place.

@@ -4,10 +4,10 @@ use crate::tally::gives;
 use crate::tally::holds_then;
 use crate::tally::refused;
 use evaluator::Trial;
+use names::list::NameList;
+use names::name::Name;
 use recording::fault::Layer;
 use recording::fault::LoadFault;
-use recording::list::NameList;
-use recording::names::Name;
 use std::alloc::AllocError;
 use std::alloc::Global;
 

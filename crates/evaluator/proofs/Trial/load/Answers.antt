@@ -9,7 +9,7 @@ use Rattle.std.specs.declared.result.Result.the-variants.{Ok, Err}
 use Rattle.std.proofs.shelf.Results.{err-from-errBy}
 use Rattle.recording.specs.declared.fault.LoadFault.{LoadFault}
 use Rattle.recording.specs.Coding.{decoded, names-of, names-recorded}
-use Rattle.recording.specs.Lists.{limit-of}
+use Rattle.names.specs.Lists.{limit-of}
 use Rattle.evaluator.specs.Histories.{loaded}
 use Rattle.evaluator.proofs.Loads.{refused-string, loaded-few}
 use Rattle.evaluator.proofs.Stores.{load-stores}

@@ -1,0 +1,4 @@
+pub mod Serves
+pub mod Hands
+pub mod Ahead
+pub mod Admits
