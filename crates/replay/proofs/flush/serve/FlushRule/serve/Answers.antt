@@ -9,7 +9,7 @@ use Rattle.paging.specs.Frames.{frames-of}
 use Rattle.paging.specs.Sets.{pages}
 use Rattle.paging.specs.Policies.{itself}
 use Rattle.paging.proofs.Sets.{none-pulled, one-pulled}
-use Rattle.pager.proofs.Serves.{stepped-none, stepped-first}
+use Rattle.pagers.proofs.Serves.{stepped-none, stepped-first}
 use Rattle.replay.specs.Flush.{flush-step}
 use Rattle.replay.proofs.Flushes.{flush-hit, flush-fault, alone-fits}
 use Rattle.replay.proofs.flush.serve.FlushRule.serve.Needs as need
