@@ -3,7 +3,7 @@ use mathlib.Core.Path.{_≡_, refl, ap, sym, subst, _∙_}
 use mathlib.Core.Bool.{Bool, true, false, _&&_, cond}
 use mathlib.Core.List.{List, [], _∷_, _++_}
 use mathlib.Core.Logic.{_⊎_, inl, inr}
-use Prim.Native.Nat.{ℕ, suc, _+_, _-_, _≤_, _<_}
+use Prim.Native.Nat.{ℕ, zero, suc, _+_, _-_, _≤_, _<_}
 use native.Mathlib.Omega.{arith}
 use lib.Dec.{eqb, leb, ltb}
 use lib.ListN.{length, getD, take}
@@ -13,26 +13,26 @@ use Rattle.std.specs.declared.result.Result.{Result}
 use Rattle.std.specs.declared.result.Result.the-variants.{Ok, Err}
 use Rattle.std.proofs.shelf.Lists.{length-push, length-take-le, getD-take, getD-push, getD-append-left}
 use Rattle.std.proofs.shelf.Tests.{cases-bool, cases-lt, ltb-true, leb-true, le-leb, and-from, cond-true, eq-eqb}
-use Rattle.paging.specs.declared.policy.Policy.the-variants.{Min, Dpmin}
+use Rattle.paging.specs.declared.policy.Policy.the-variants.{Lru, Min, Dpmin}
 use Rattle.paging.specs.declared.refusal.Refusal.{Refusal}
 use Rattle.paging.specs.declared.refusal.Refusal.the-variants.{BadFrameCount, PagerHoldsPages, NoFrameCountWithin}
 use Rattle.paging.specs.Frames.{is-frames}
 use Rattle.paging.specs.Pages.{codes, size}
 use Rattle.paging.specs.Schedules.{Coded}
 use Rattle.paging.specs.Models.{PagerModel, Keeps, instants-on, pulls-on}
-use Rattle.paging.specs.Rankings.{RankingModel, Orders, own-faults}
+use Rattle.paging.specs.Rankings.{RankingModel, Orders, last-told, next-told, untold}
 use Rattle.paging.specs.Policies.{instants, pulls-of}
 use Rattle.paging.specs.Theorems.{Least, Starts-empty}
-use Rattle.paging.proofs.Least.{policies-least}
+use Rattle.paging.proofs.Least.{policies-least, dpmin-more-frames}
+use Rattle.paging.proofs.Orders.{last-orders, next-orders}
 use Rattle.paging.proofs.Sums.{member}
-use Rattle.ranking.specs.Edges.{edge, faults-at, at-count}
-use Rattle.ranking.specs.Stack.{pass-row}
+use Rattle.ranking.specs.Edges.{edge, faults-at, Falls}
 use Rattle.ranking.proofs.Edges.{edge-of, pass-row-at}
 use Rattle.ranking.proofs.Inclusions.{faults-fall}
 use Rattle.evaluator.specs.Strings.{put-string, take-string}
-use Rattle.evaluator.specs.Answers.{figures-answer, run-answer, ranking-edge, found}
+use Rattle.evaluator.specs.Answers.{figures-answer, run-answer, edge-answer, ranking-edge, instants-at, found}
 use Rattle.evaluator.specs.Histories.{Call, put, take-back, clear, load, after-call, after-calls, Possible, All-possible}
-use Rattle.evaluator.specs.Guarantee.{Told, letter-M, letter-D, Fewest-pulls, Fewest-instants, No-better, At-frames, Edge-at, Edge-told, Ranked, Stands, Guarantee}
+use Rattle.evaluator.specs.Guarantee.{Told, letter-M, letter-D, Fewest-pulls, Fewest-instants, No-better, At-frames, Edge-at, Edge-told, Ranked, Edges-by-letter, Stands, Guarantee}
 use Rattle.evaluator.proofs.Loads.{load-fits}
 
 -- a string of at most 4,096 references to pages
@@ -115,29 +115,58 @@ module _ (f : ℕ) (some : 1 ≤ f) (most : f ≤ 64) (s : List ℕ) (fits : Fit
   at-frames : At-frames f s
   at-frames = record { min = min-told; dpmin = dpmin-told; pagers = pagers-told }
 
--- the edge of a ranking
-module _ (r : RankingModel) (orders : Orders r) (s : List ℕ) (coded : Coded s) (ceiling : ℕ) where
-  edge-told : (o : Option ℕ) → edge (faults-at r s) ceiling ≡ o → Edge-told r s ceiling (found o)
-  edge-told (Some e) h =
-      let w = edge-of (faults-at r s) ceiling .found e h in
+-- an edge, where more frames never give more
+module _ (g : ℕ → ℕ) (ceiling : ℕ) (falls : (e f : ℕ) → 1 ≤ e → e ≤ f → f ≤ 64 → g f ≤ g e) where
+  edge-found : (o : Option ℕ) → edge g ceiling ≡ o → Edge-told g ceiling (found o)
+  edge-found (Some e) h =
+      let w = edge-of g ceiling .found e h in
       record {
         some = w .some;
         most = w .most;
         within = w .within;
         smallest = w .least;
-        larger = λ f l _. edge-of (faults-at r s) ceiling .beyond (faults-fall r orders s coded) e f h l;
+        larger = λ f l m. omega (arith, w .within, falls e f (w .some) l m);
       }
-  edge-told None h = (refl, edge-of (faults-at r s) ceiling .none h)
+  edge-found None h = (refl, edge-of g ceiling .none h)
 
-stands : (s : List ℕ) → Fits s → Stands s
-stands s fits =
-    record {
-      at-frames = λ f some most. at-frames f some most s fits;
-      rankings = λ r orders. record {
+  edge-told : Edge-told g ceiling (found (edge g ceiling))
+  edge-told = edge-found (edge g ceiling) refl
+
+-- step by step to any larger frame count
+falls-far : (g : ℕ → ℕ) → Falls g → (e d : ℕ) → 1 ≤ e → g (d + e) ≤ g e
+falls-far g falls e zero l = let z : 0 + e ≡ e = omega arith in rw z (omega arith)
+falls-far g falls e (suc d) l =
+    let z : suc d + e ≡ suc (d + e) = omega arith in
+    rw z (omega (arith, falls-far g falls e d l, falls (d + e) (omega arith)))
+
+module _ (s : List ℕ) (fits : Fits s) where
+  ranking-falls : (r : RankingModel) → Orders r → (e f : ℕ) → 1 ≤ e → e ≤ f → f ≤ 64 → faults-at r s f ≤ faults-at r s e
+  ranking-falls r orders e f l h m =
+      let z : (f - e) + e ≡ f = omega arith in
+      subst (λ (k : ℕ). faults-at r s k ≤ faults-at r s e) z (falls-far (faults-at r s) (faults-fall r orders s (fits .1)) e (f - e) l)
+
+  ranked : (r : RankingModel) → Orders r → Ranked r s
+  ranked r orders =
+      record {
         pass = λ f some most. pass-row-at r s f some most;
-        edge = λ ceiling. edge-told r orders s (fits .1) ceiling (edge (faults-at r s) ceiling) refl;
-      };
-    }
+        edge = λ ceiling. edge-told (faults-at r s) ceiling (ranking-falls r orders);
+      }
+
+  edges-told : (ceiling : ℕ) → Edges-by-letter s ceiling
+  edges-told ceiling =
+      record {
+        lru = edge-told (instants-at Lru s) ceiling (ranking-falls (last-told untold) (last-orders untold));
+        min = edge-told (instants-at Min s) ceiling (ranking-falls (next-told untold) (next-orders untold));
+        dpmin = edge-told (instants-at Dpmin s) ceiling (λ e f l h m. dpmin-more-frames e f s l (omega arith) h (fits .1));
+      }
+
+  stands : Stands s
+  stands =
+      record {
+        at-frames = λ f some most. at-frames f some most s fits;
+        rankings = ranked;
+        edges = edges-told;
+      }
 
 pub guarantee : Guarantee
 guarantee calls possible = stands (after-calls [] calls) (calls-fit [] calls possible (omega arith, λ t q. absurd (omega arith)))

@@ -5,7 +5,7 @@ use Prim.Native.Nat.{ℕ, _≤_, _<_}
 use lib.ListN.{length}
 use Rattle.std.specs.declared.result.Result.{Result}
 use Rattle.std.specs.declared.result.Result.the-variants.{Ok, Err}
-use Rattle.paging.specs.declared.policy.Policy.the-variants.{Min, Dpmin}
+use Rattle.paging.specs.declared.policy.Policy.the-variants.{Lru, Min, Dpmin}
 use Rattle.paging.specs.declared.refusal.Refusal.{Refusal}
 use Rattle.paging.specs.declared.refusal.Refusal.the-variants.{NoFrameCountWithin}
 use Rattle.paging.specs.Pages.{nothing, size}
@@ -13,9 +13,9 @@ use Rattle.paging.specs.Schedules.{Holding, Schedule, Prepages, pulls, faults}
 use Rattle.paging.specs.Models.{PagerModel, Keeps, instants-on, pulls-on}
 use Rattle.paging.specs.Rankings.{RankingModel, Orders, own-faults}
 use Rattle.paging.specs.Policies.{schedule}
-use Rattle.ranking.specs.Edges.{at-count}
+use Rattle.ranking.specs.Edges.{at-count, faults-at}
 use Rattle.ranking.specs.Stack.{pass-row}
-use Rattle.evaluator.specs.Answers.{figures-answer, run-answer, ranking-edge}
+use Rattle.evaluator.specs.Answers.{figures-answer, run-answer, edge-answer, ranking-edge, instants-at}
 use Rattle.evaluator.specs.Histories.{Call, All-possible, after-calls}
 
 -- the call was accepted, and P is true of what it answered
@@ -23,7 +23,10 @@ abbrev pub Told : {X : Type 0} → Result X Refusal → (X → Type 0) → Type 
 Told (Ok x) P = P x
 Told (Err e) P = ⊥
 
--- the letters of MIN and DPMIN
+-- the letters of LRU, MIN and DPMIN
+abbrev pub letter-L : ℕ
+letter-L = 76
+
 abbrev pub letter-M : ℕ
 letter-M = 77
 
@@ -57,28 +60,35 @@ pub record At-frames (f : ℕ) (s : List ℕ) : Type 0 where
   pub dpmin : Told (figures-answer letter-D f s) (Fewest-instants f s)
   pub pagers : (b : PagerModel) → Keeps f b → size (b []) ≡ 0 → Told (run-answer b s) (No-better f s b)
 
--- e is the smallest frame count within the ceiling, and every larger one is within it too
-pub record Edge-at (r : RankingModel) (s : List ℕ) (ceiling e : ℕ) : Type 0 where
+-- e is the smallest frame count at which g is within the ceiling, and at every larger one it is too
+pub record Edge-at (g : ℕ → ℕ) (ceiling e : ℕ) : Type 0 where
   pub some : 1 ≤ e
   pub most : e ≤ 64
-  pub within : own-faults r e s ≤ ceiling
-  pub smallest : (f : ℕ) → 1 ≤ f → f < e → ceiling < own-faults r f s
-  pub larger : (f : ℕ) → e ≤ f → f ≤ 64 → own-faults r f s ≤ ceiling
+  pub within : g e ≤ ceiling
+  pub smallest : (f : ℕ) → 1 ≤ f → f < e → ceiling < g f
+  pub larger : (f : ℕ) → e ≤ f → f ≤ 64 → g f ≤ ceiling
 
--- what the edge call may answer: the edge; or the refusal, and then there is none
-abbrev pub Edge-told : RankingModel → List ℕ → ℕ → Result ℕ Refusal → Type 0
-Edge-told r s ceiling (Ok e) = Edge-at r s ceiling e
-Edge-told r s ceiling (Err x) = (x ≡ NoFrameCountWithin) × ((f : ℕ) → 1 ≤ f → f ≤ 64 → ceiling < own-faults r f s)
+-- what an edge call may answer: the edge; or the refusal, and then there is none
+abbrev pub Edge-told : (ℕ → ℕ) → ℕ → Result ℕ Refusal → Type 0
+Edge-told g ceiling (Ok e) = Edge-at g ceiling e
+Edge-told g ceiling (Err x) = (x ≡ NoFrameCountWithin) × ((f : ℕ) → 1 ≤ f → f ≤ 64 → ceiling < g f)
 
 -- a pass gives exactly the faults of the ranking's own run at each frame count, and edge finds its edge for every ceiling
 pub record Ranked (r : RankingModel) (s : List ℕ) : Type 0 where
   pub pass : (f : ℕ) → 1 ≤ f → f ≤ 64 → at-count (pass-row r s) f ≡ own-faults r f s
-  pub edge : (ceiling : ℕ) → Edge-told r s ceiling (ranking-edge r s ceiling)
+  pub edge : (ceiling : ℕ) → Edge-told (faults-at r s) ceiling (ranking-edge r s ceiling)
+
+-- by letter, edge finds the edge of LRU, of MIN and of DPMIN, over the fault instants that figures tell
+pub record Edges-by-letter (s : List ℕ) (ceiling : ℕ) : Type 0 where
+  pub lru : Edge-told (instants-at Lru s) ceiling (edge-answer letter-L s ceiling)
+  pub min : Edge-told (instants-at Min s) ceiling (edge-answer letter-M s ceiling)
+  pub dpmin : Edge-told (instants-at Dpmin s) ceiling (edge-answer letter-D s ceiling)
 
 -- all that is said of one string
 pub record Stands (s : List ℕ) : Type 0 where
   pub at-frames : (f : ℕ) → 1 ≤ f → f ≤ 64 → At-frames f s
   pub rankings : (r : RankingModel) → Orders r → Ranked r s
+  pub edges : (ceiling : ℕ) → Edges-by-letter s ceiling
 
 -- whatever calls were made on a trial begun afresh, refused ones included
 abbrev pub Guarantee : Type 0
