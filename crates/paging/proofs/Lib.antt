@@ -9,6 +9,7 @@ pub mod Orders
 pub mod Near
 pub mod FewestPulls
 pub mod Foremost
+pub mod FirstPages
 pub mod FewestFaults
 pub mod OwnRuns
 pub mod Told

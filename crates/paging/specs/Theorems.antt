@@ -1,15 +1,15 @@
 -- What is proved of all schedules, pagers, rankings and policies. Assumes nothing.
 use mathlib.Core.Path.{_≡_}
-use mathlib.Core.Bool.{false}
+use mathlib.Core.Bool.{true, false}
 use mathlib.Core.List.{List, []}
-use Prim.Native.Nat.{ℕ, suc, _+_, _≤_, _<_}
-use lib.ListN.{length, getD, take}
+use Prim.Native.Nat.{ℕ, suc, _+_, _≤_, _<_, min}
+use lib.ListN.{length, getD, take, drop}
 use Rattle.paging.specs.Pages.{codes, Pages, nothing, size}
-use Rattle.paging.specs.Schedules.{Coded, Holding, Schedule-to, Schedule, Prepages-to, Prepages, pulls, releases, faults}
+use Rattle.paging.specs.Schedules.{next, Coded, Holding, Schedule-to, Schedule, Prepages-to, Prepages, pulls, releases, faults}
 use Rattle.paging.specs.Models.{PagerModel, Keeps, held-on, instants-on, pulls-on}
 use Rattle.paging.specs.Rankings.{RankingModel, Orders, told-all, tellings, own-from, own, own-faults}
 use Rattle.paging.specs.declared.policy.Policy.the-variants.{Lru, Min, Dpmin, Fifo}
-use Rattle.paging.specs.Policies.{dpmin, fifo, schedule, instants, pulls-of, Demand, Furthest, Oldest, Longest-held, Behind}
+use Rattle.paging.specs.Policies.{pool, before, dpmin, fifo, schedule, instants, pulls-of, Demand, Furthest, Oldest, Longest-held, Behind}
 
 -- a pager that keeps its laws makes a schedule, and pulls only at its fault instants
 abbrev pub Pagers-schedule : Type 0
@@ -49,6 +49,19 @@ Dpmin-faults-latest =
 -- DPMIN keeps the laws of a pager
 abbrev pub Dpmin-keeps : Type 0
 Dpmin-keeps = (f : ℕ) (B : Pages) → 1 ≤ f → f ≤ 64 → size B ≤ f → Keeps f (dpmin f B)
+
+-- the set N is the first f pages of DPMIN's order of the pool, or all of them if there are fewer
+pub record First-pages (f : ℕ) (ys : List ℕ) (M N : Pages) : Type 0 where
+  pub within : (c : ℕ) → c < codes → N c ≡ true → pool ys M c ≡ true
+  pub many : size N ≡ min f (size (pool ys M))
+  pub first : (c d : ℕ) → c < codes → d < codes → N c ≡ true → pool ys M d ≡ true → N d ≡ false → before (next ys) c d ≡ true
+
+-- DPMIN moves nothing where the referenced page is held, and at a fault holds the first pages of the pool
+abbrev pub Dpmin-holds-first-pages : Type 0
+Dpmin-holds-first-pages =
+    (f : ℕ) (B : Pages) (s : List ℕ) (t : ℕ) → t < length s →
+    (held-on (dpmin f B) s t (getD s t 0) ≡ true → held-on (dpmin f B) s (suc t) ≡ held-on (dpmin f B) s t) ×
+    (held-on (dpmin f B) s t (getD s t 0) ≡ false → First-pages f (drop t s) (held-on (dpmin f B) s t) (held-on (dpmin f B) s (suc t)))
 
 -- and so does the own run of every ranking
 abbrev pub Own-keeps : Type 0

@@ -1,5 +1,5 @@
 //! What is proved of all schedules, pagers, rankings and policies, each as the contract of a function.
-ghost use Rattle.paging.specs.Theorems.{Dpmin-faults-latest, Dpmin-faults-least, Dpmin-keeps, Dpmin-more-frames, Fifo-keeps, Fifo-releases-longest-held, Lru-releases-oldest, Min-pulls-least, Min-releases-furthest, Own-keeps, Own-pulls-at-faults, Own-releases-hindmost, Pagers-schedule, Policies-least, Pulls-balance};
+ghost use Rattle.paging.specs.Theorems.{Dpmin-faults-latest, Dpmin-faults-least, Dpmin-holds-first-pages, Dpmin-keeps, Dpmin-more-frames, Fifo-keeps, Fifo-releases-longest-held, Lru-releases-oldest, Min-pulls-least, Min-releases-furthest, Own-keeps, Own-pulls-at-faults, Own-releases-hindmost, Pagers-schedule, Policies-least, Pulls-balance};
 
 /// Pagers make schedules; DPMIN and FIFO are pagers, and so is the own run of every ranking.
 pub fn pagers_stand() -> u8
@@ -21,12 +21,13 @@ pub fn schedules_stand() -> u8
     0
 }
 
-/// Which page goes in every ranking's own run, under MIN, LRU and FIFO; and that such a run pulls one page at each fault.
+/// Which page goes in every ranking's own run, under MIN, LRU and FIFO; which pages DPMIN holds after a fault; and that such a run pulls one page at each fault.
 pub fn releases_stand() -> u8
     ensures own { λ _. ⌜ Own-releases-hindmost ⌝ }
     ensures min { λ _. ⌜ Min-releases-furthest ⌝ }
     ensures lru { λ _. ⌜ Lru-releases-oldest ⌝ }
     ensures fifo { λ _. ⌜ Fifo-releases-longest-held ⌝ }
+    ensures dpmin { λ _. ⌜ Dpmin-holds-first-pages ⌝ }
     ensures pulls { λ _. ⌜ Own-pulls-at-faults ⌝ }
 {
     0

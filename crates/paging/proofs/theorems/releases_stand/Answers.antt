@@ -1,3 +1,4 @@
+use Rattle.paging.proofs.FirstPages.{dpmin-holds-first-pages}
 use Rattle.paging.proofs.OwnRuns.{own-releases-hindmost}
 use Rattle.paging.proofs.MinRun.{min-releases-furthest}
 use Rattle.paging.proofs.LruRun.{lru-releases-oldest}
@@ -7,4 +8,4 @@ use Rattle.paging.proofs.theorems.releases_stand.Needs as need
 
 pub returns : need.returns
 returns c =
-    record { own = own-releases-hindmost; min = min-releases-furthest; lru = lru-releases-oldest; fifo = fifo-releases-longest-held; pulls = own-pulls-at-faults }
+    record { own = own-releases-hindmost; min = min-releases-furthest; lru = lru-releases-oldest; fifo = fifo-releases-longest-held; dpmin = dpmin-holds-first-pages; pulls = own-pulls-at-faults }
