@@ -1,25 +1,32 @@
--- What was loaded is what will be stored. Assumes nothing.
+-- What was loaded is what will be stored, and what was stored is what will be loaded. Assumes nothing.
 use mathlib.Core.Path.{_≡_, refl, ap, sym, subst, _∙_}
 use mathlib.Core.Bool.{Bool, true, false, cond}
 use mathlib.Core.List.{List, [], _∷_, _++_, map}
 use mathlib.Core.Logic.{_⊎_, inl, inr}
 use Prim.Native.Nat.{ℕ, zero, suc, _+_, _-_, _^_, _≤_, _<_}
 use native.Mathlib.Omega.{arith}
+use lib.Dec.{ltb}
 use lib.ListN.{length, getD, take, drop}
+use lib.Pow.{pow-pos}
+use Rattle.std.specs.Vec.{made}
 use Rattle.std.specs.declared.result.Result.{Result}
 use Rattle.std.specs.declared.result.Result.the-variants.{Ok, Err}
 use Rattle.std.proofs.shelf.Lists.{length-append, length-drop, length-map, length-push, take-at, getD-push, getD-append-left}
 use Rattle.std.proofs.shelf.Tests.{cases-bool, cases-lt}
+use Rattle.paging.specs.declared.refusal.Refusal.{Refusal}
+use Rattle.paging.specs.declared.refusal.Refusal.the-variants.{OutputTooShort, CodeWithoutName}
 use Rattle.recording.specs.declared.fault.LoadFault.{LoadFault}
 use Rattle.recording.specs.Coding.{codes-of, coded-answer, decoded, learnt, names-in, names-laid, names-of, names-recorded, with-records}
 use Rattle.names.specs.Lists.{adds, limit-of, listed, with-name}
-use Rattle.recording.specs.Reading.{and-then, laid-out}
-use Rattle.recording.specs.Standing.{Below}
-use Rattle.recording.specs.Writing.{all-named, named-by, recording}
+use Rattle.recording.specs.Reading.{and-then, bytes-for, laid-out}
+use Rattle.recording.specs.Standing.{Below, Row}
+use Rattle.recording.specs.Writing.{all-named, encoded, named-by, recording, recording-bit, written}
+use Rattle.recording.proofs.Bitwise.{length-numbers}
 use Rattle.recording.proofs.Codes.{codes-stand, learnt-within}
 use Rattle.recording.proofs.Progress.{learnt-more, learnt-none, listed-is}
-use Rattle.recording.proofs.Recorded.{names-below}
+use Rattle.recording.proofs.Recorded.{names-below, laid}
 use Rattle.recording.proofs.Stored.{stored-as-loaded}
+use Rattle.evaluator.specs.Stored.{Loads-as}
 
 below-push : (n : ℕ) (xs : List ℕ) (x : ℕ) → Below n xs → x < n → Below n (xs ++ x ∷ [])
 below-push n xs x b l i h = go (cases-lt i (length xs))
@@ -87,3 +94,35 @@ load-stores {X} bits make kind width mark some back memory memory′ k count byt
       ap (λ (ns : List ℕ). recording kind width (named-by ns cs)) list ∙ stored-as-loaded kind width mark some bytes n limit cs low (l .1) coded′,
       ap (λ (ns : List ℕ). all-named (length ns) cs) list ∙ codes-stand limit names cs coded′ .named,
     )
+
+-- what is stored has the layout of a recording, and the names in it are those of the string
+module _ {X : Type 0} (bits : X → ℕ) (kind width : ℕ) (mark : kind < 4) (some : 1 ≤ width) (fits : (x : X) → bits x < 2 ^ width) where
+  bits-below : (xs : List X) (i : ℕ) → getD (map bits xs) i 0 < 2 ^ width
+  bits-below [] i = pow-pos width
+  bits-below (x ∷ xs) zero = fits x
+  bits-below (x ∷ xs) (suc i) = bits-below xs i
+
+  named-row : (xs : List X) (s : List ℕ) → length s ≤ 4096 → Row width (named-by (map bits xs) s)
+  named-row xs s h = (omega (arith, length-map s (λ c. getD (map bits xs) c 0)), λ i l. below s i (omega (arith, length-map s (λ c. getD (map bits xs) c 0))))
+    where
+      below : (cs : List ℕ) (i : ℕ) → i < length cs → getD (named-by (map bits xs) cs) i 0 < 2 ^ width
+      below [] i l = absurd (omega arith)
+      below (c ∷ cs) zero l = bits-below xs c
+      below (c ∷ cs) (suc i) l = below cs i (omega arith)
+
+  encoded-count : (a b : Bool) (n m : ℕ) (e x : Refusal) → _≡_ {A = Result ℕ Refusal} (Ok n) (cond a (cond b (Err e) (Ok m)) (Err x)) → n ≡ m
+  encoded-count true true n m e x q = let z : _≡_ {A = ℕ} 0 1 = cc in absurd (omega arith)
+  encoded-count true false n m e x q = cc
+  encoded-count false b n m e x q = let z : _≡_ {A = ℕ} 0 1 = cc in absurd (omega arith)
+
+  pub store-loads : (xs : List X) (s : List ℕ) → length s ≤ 4096 → (old out : List ℕ) (r : Result ℕ Refusal) →
+      r ≡ encoded width (map bits xs) s (length old) → out ≡ written r (recording kind width (named-by (map bits xs) s)) old →
+      made r (λ n. Loads-as kind width (named-by (map bits xs) s) (take n out))
+  store-loads xs s h old out (Err x) e w = tt
+  store-loads xs s h old out (Ok n) e w =
+      let ns = named-by (map bits xs) s in
+      let m : n ≡ bytes-for width (length s) = encoded-count (all-named (length (map bits xs)) s) (ltb (length old) (bytes-for width (length s))) n (bytes-for width (length s)) OutputTooShort CodeWithoutName e in
+      let l : length (recording kind width ns) ≡ n =
+      length-numbers (recording-bit kind width ns) 8 0 (bytes-for width (length ns)) ∙ ap (bytes-for width) (length-map s (λ c. getD (map bits xs) c 0)) ∙ sym m in
+      let t : take n out ≡ recording kind width ns = ap (take n) w ∙ take-at (recording kind width ns) (drop n old) n l in
+      subst (λ (bytes : List ℕ). Loads-as kind width ns bytes) (sym t) (laid kind width mark some .all ns (named-row xs s h))

@@ -1,5 +1,6 @@
 //! Recordings: loading them into a trial, and storing them.
 ghost use Rattle.evaluator.specs.Histories.{after-call, load};
+ghost use Rattle.evaluator.specs.Stored.{Loads-as};
 ghost use Rattle.evaluator.specs.Strings.{string};
 ghost use Rattle.recording.specs.Coding.{decoded, names-of, names-recorded, with-records};
 ghost use Rattle.names.specs.Lists.{limit-of, listed};
@@ -8,7 +9,7 @@ ghost use Rattle.std.specs.Results.{isOk};
 ghost use Rattle.std.specs.Vec.{made};
 ghost use denote.Ref.{name};
 ghost use mathlib.Core.Bool.{cond, true};
-ghost use lib.ListN.{length};
+ghost use lib.ListN.{length, take};
 ghost use mathlib.Core.Path.{_≡_};
 use crate::Trial;
 use names::list::NameList;
@@ -41,7 +42,8 @@ impl Trial {
         Ok(count)
     }
 
-    /// Writes the recording of the string with the names of the list. Returns the number of bytes.
+    /// Writes the recording of the string with the names of the list. Returns the number of bytes. They load as the same row of
+    /// names.
     pub fn store<N: Name + Copy>(
         &self,
         list: &NameList<N>,
@@ -49,6 +51,7 @@ impl Trial {
     ) -> Result<usize, Refusal>
         ensures answer { λ r. ⌜ r ≡ encoded (N·Name .width) (listed (N·Name .bits) (now (now (list .entry) .memory)) (now (list .entry) .count)) (string (now (self .entry))) (length (now (out .entry))) ⌝ }
         ensures out { λ r. ⌜ now (out .exit) ≡ written r (recording (N·Name .kind) (N·Name .width) (named-by (listed (N·Name .bits) (now (now (list .entry) .memory)) (now (list .entry) .count)) (string (now (self .entry))))) (now (out .entry)) ⌝ }
+        ensures loads { λ r. ⌜ made r (λ n. Loads-as (N·Name .kind) (N·Name .width) (named-by (listed (N·Name .bits) (now (now (list .entry) .memory)) (now (list .entry) .count)) (string (now (self .entry)))) (take n (now (out .exit)))) ⌝ }
     {
         encode(list, self.codes(), out)
     }

@@ -2,6 +2,6 @@
 pub mod decode;
 pub mod encode;
 pub mod fault;
-pub mod guarantee;
 mod layout;
 mod reader;
+pub mod theorems;
