@@ -15,9 +15,10 @@ use Rattle.paging.proofs.Sets.{size-nothing}
 use Rattle.paging.specs.declared.refusal.Refusal.{Refusal}
 use Rattle.paging.specs.Models.{PagerModel, instants-on, pulls-on}
 use Rattle.paging.specs.Policies.{model, instants, pulls-of}
+use Rattle.recording.specs.Reading.{and-then}
 use Rattle.ranking.specs.Edges.{edge, at-count}
 use Rattle.ranking.proofs.Edges.{edge-same}
-use Rattle.evaluator.specs.Answers.{policy-of, and-then, instants-at, instants-row, model-plan, plan-of, write-answer, written}
+use Rattle.evaluator.specs.Answers.{policy-of, instants-at, instants-row, model-plan, plan-of, write-answer, written}
 
 -- the letter's answer was the policy q, and q is p
 pub chosen : (letter : ℕ) (p q : Policy) (r : Result Policy Refusal) → r ≡ policy-of letter → r ≡ Ok q → q ≡ p → policy-of letter ≡ Ok p

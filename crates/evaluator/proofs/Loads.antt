@@ -21,10 +21,11 @@ use Rattle.recording.proofs.Bitwise.{length-numbers}
 use Rattle.names.proofs.Places.{place-most}
 use Rattle.recording.proofs.Progress.{coded-more, coded-none}
 use Rattle.recording.specs.Bits.{bit-of}
+use Rattle.recording.specs.Standing.{Below}
 use Rattle.recording.specs.Reading.{and-then, asked, bytes-for, by-bytes, counted as counted-in, head, body, laid-out, marked, spare}
 use Rattle.evaluator.specs.Histories.{loaded, load-string}
 
-never : {X : Type 0} (n : ℕ) (e : LoadFault) → _≡_ {A = Result ℕ LoadFault} (Ok n) (Err e) → X
+pub never : {X : Type 0} (n : ℕ) (e : LoadFault) → _≡_ {A = Result ℕ LoadFault} (Ok n) (Err e) → X
 never n e q = let z : _≡_ {A = ℕ} 0 1 = cc in absurd (omega arith)
 
 module _ (width : ℕ) (bytes : List ℕ) (limit : ℕ) where
@@ -54,11 +55,8 @@ pub refused-string : (kind width places : ℕ) (bytes : List ℕ) (e : LoadFault
     load-string kind width places bytes ≡ []
 refused-string kind width places bytes e h = none-laid width bytes (limit-of places) (laid-out kind width bytes) e h
 
--- the numbers of a row are below a limit
-abbrev Below : ℕ → List ℕ → Type 0
-Below limit cs = (i : ℕ) → i < length cs → getD cs i 0 < limit
-
-below-push : (limit : ℕ) (cs : List ℕ) (x : ℕ) → Below limit cs → x < limit → Below limit (cs ++ x ∷ [])
+-- one number more
+pub below-push : (limit : ℕ) (cs : List ℕ) (x : ℕ) → Below limit cs → x < limit → Below limit (cs ++ x ∷ [])
 below-push limit cs x b l i h = go (cases-lt i (length cs))
   where
     go : (i < length cs) ⊎ (length cs ≤ i) → getD (cs ++ x ∷ []) i 0 < limit

@@ -27,13 +27,7 @@ use Rattle.recording.proofs.Progress.{learnt-more, learnt-none, listed-is}
 use Rattle.recording.proofs.Recorded.{names-below, laid}
 use Rattle.recording.proofs.Stored.{stored-as-loaded}
 use Rattle.evaluator.specs.Stored.{Loads-as}
-
-below-push : (n : ℕ) (xs : List ℕ) (x : ℕ) → Below n xs → x < n → Below n (xs ++ x ∷ [])
-below-push n xs x b l i h = go (cases-lt i (length xs))
-  where
-    go : (i < length xs) ⊎ (length xs ≤ i) → getD (xs ++ x ∷ []) i 0 < n
-    go (inl q) = rw (getD-append-left xs (x ∷ []) 0 i q) (b i q)
-    go (inr q) = let e : length xs ≡ i = omega (arith, length-push xs x) in rw (getD-push xs x 0 i e) l
+use Rattle.evaluator.proofs.Loads.{below-push, never}
 
 learnt-below : (n limit : ℕ) (ns ms : List ℕ) → Below n ns → Below n ms → Below n (learnt limit ns ms)
 learnt-below n limit ns [] b c = rw (learnt-none limit ns) b
@@ -61,15 +55,12 @@ module _ {X : Type 0} (bits : X → ℕ) (make : ℕ → X) (n : ℕ) (back : (m
       listed-is bits (with-records make ns memory) (length ns) fits
       ∙ ap (map bits) (take-at (map make ns) (drop (length ns) memory) (length ns) m) ∙ bits-made ns b
 
-never : {Y : Type 0} (n : ℕ) (e : LoadFault) → _≡_ {A = Result ℕ LoadFault} (Err e) (Ok n) → Y
-never n e q = let z : _≡_ {A = ℕ} 0 1 = cc in absurd (omega arith)
-
 -- an accepted recording is laid out
 laid-of : (kind width places : ℕ) (bytes : List ℕ) (count : ℕ) (r : Result ℕ LoadFault) → r ≡ laid-out kind width bytes →
     and-then r (λ n. coded-answer (codes-of (limit-of places) (names-in width bytes n))) ≡ Ok count →
     (n : ℕ) × (laid-out kind width bytes ≡ Ok n) × (names-recorded kind width bytes ≡ names-in width bytes n)
 laid-of kind width places bytes count (Ok n) e h = (n, sym e, ap (names-laid width bytes) (sym e))
-laid-of kind width places bytes count (Err x) e h = never count x h
+laid-of kind width places bytes count (Err x) e h = never count x (sym h)
 
 -- the recording of the string and the list that a load leaves is the one that was loaded, and every code has a name
 pub load-stores : {X : Type 0} (bits : X → ℕ) (make : ℕ → X) (kind width : ℕ) → kind < 4 → 1 ≤ width → ((m : ℕ) → m < 2 ^ width → bits (make m) ≡ m) →

@@ -14,6 +14,8 @@ use Rattle.std.proofs.shelf.Tests.{cases-eq, cases-lt, cases-bool, eq-eqb, ne-e
 use Rattle.std.proofs.shelf.Ways.{tells}
 use Rattle.paging.specs.Pages.{bit, total, Pages, codes, size, has, with-page, without}
 use Rattle.paging.specs.Schedules.{faults, latest}
+use Rattle.paging.proofs.Next.{latest-le}
+use Rattle.paging.proofs.Queues.{has-append}
 use Rattle.paging.proofs.Sums.{total-suc}
 use Rattle.evaluator.specs.WorkingSets.{working-set, sizes-to, Windowed, Latest}
 
@@ -25,26 +27,14 @@ pub latest-none : (s : List ℕ) (c : ℕ) → latest s 0 c ≡ 0
 unfolding latest
 latest-none s c = refl
 
-pub latest-le : (s : List ℕ) (t c : ℕ) → latest s t c ≤ t
-latest-le s zero c = rw (latest-none s c) (omega arith)
-latest-le s (suc t) c = let r = latest-le s t c in rw (latest-more s t c) (grind arith)
-
 -- the page stands at its latest place
-pub latest-at : (s : List ℕ) (t c j : ℕ) → latest s t c ≡ suc j → getD s j 0 ≡ c
-latest-at s zero c j e = absurd (omega (arith, latest-none s c))
-latest-at s (suc t) c j e = go (cases-eq (getD s t 0) c) (latest-at s t c j)
+pub latest-found : (s : List ℕ) (t c j : ℕ) → latest s t c ≡ suc j → getD s j 0 ≡ c
+latest-found s zero c j e = absurd (omega (arith, latest-none s c))
+latest-found s (suc t) c j e = go (cases-eq (getD s t 0) c) (latest-found s t c j)
   where
     go : (getD s t 0 ≡ c) ⊎ (getD s t 0 ≡ c → ⊥) → (latest s t c ≡ suc j → getD s j 0 ≡ c) → getD s j 0 ≡ c
     go (inl q) _ = let b = eq-eqb (getD s t 0) c q in let k : t ≡ j = omega (arith, rw b at (latest-more s t c)) in rw (← k) q
     go (inr n) r = let b = ne-eqb (getD s t 0) c n in r (sym (rw b at (latest-more s t c)) ∙ e)
-
-pub has-append : (xs ys : List ℕ) (c : ℕ) → has (xs ++ ys) c ≡ (has xs c || has ys c)
-has-append [] ys c = refl
-has-append (x ∷ xs) ys c = rw (has-append xs ys c) (assoc (eqb x c) (has xs c) (has ys c))
-  where
-    assoc : (a b d : Bool) → (a || (b || d)) ≡ ((a || b) || d)
-    assoc true b d = refl
-    assoc false b d = refl
 
 -- a page is among the last places where its latest place is
 pub latest-has : (s : List ℕ) (k t c : ℕ) → t ≤ length s → has (drop k (take t s)) c ≡ ltb k (latest s t c)
@@ -101,7 +91,7 @@ module _ (w : ℕ) (s : List ℕ) (t : ℕ) (l : t < length s) (M : Pages) (win 
     where
       go : (latest s (suc t) c ≡ suc (t - w)) ⊎ (latest s (suc t) c ≡ suc (t - w) → ⊥) → ltb (t - w) (latest s (suc t) c) ≡ ltb (t + 1 - w) (latest s (suc t) c)
       go (inl e) =
-          let q = latest-at s (suc t) c (t - w) e in
+          let q = latest-found s (suc t) c (t - w) e in
           absurd (ne (ap (λ (d : ℕ). latest s (t + 1) d) q ∙ ap (λ (k : ℕ). latest s k c) (let a : t + 1 ≡ suc t = omega arith in a) ∙ omega (arith, e)))
       go (inr n) = let a : t + 1 - w ≡ suc (t - w) = omega arith in rw a (grind (arith, tells))
 
@@ -118,7 +108,7 @@ module _ (w : ℕ) (s : List ℕ) (t : ℕ) (l : t < length s) (M : Pages) (win 
           let f : latest s (suc t) c ≡ t - w + 1 = ap (λ (k : ℕ). latest s k c) (let b : suc t ≡ t + 1 = omega arith in b) ∙ ap (λ (d : ℕ). latest s (t + 1) d) (sym q) ∙ e in
           rw (eq-eqb (getD s (t - w) 0) c q) (sym (le-ltb (t + 1 - w) (latest s (suc t) c) (omega arith)))
       go (inr n) =
-          let m : latest s (suc t) c ≡ suc (t - w) → ⊥ = λ f. n (latest-at s (suc t) c (t - w) f) in
+          let m : latest s (suc t) c ≡ suc (t - w) → ⊥ = λ f. n (latest-found s (suc t) c (t - w) f) in
           rw (ne-eqb (getD s (t - w) 0) c n, a) (grind (arith, tells))
 
 -- the table with the reference at hand

@@ -19,6 +19,7 @@ use Rattle.paging.specs.Models.{PagerModel, after, held-on, instants-on, pulls-
 use Rattle.paging.specs.Rankings.{RankingModel, told-all, tellings}
 use Rattle.paging.specs.Policies.{model, instants, pulls-of}
 use Rattle.pager.specs.Plans.{plan-words}
+use Rattle.recording.specs.Reading.{and-then}
 use Rattle.ranking.specs.Edges.{edge, faults-at}
 use Rattle.ranking.specs.Stack.{pass-row}
 
@@ -26,11 +27,6 @@ use Rattle.ranking.specs.Stack.{pass-row}
 abbrev pub policy-of : ℕ → Result Policy Refusal
 policy-of l =
     cond (eqb l 76) (Ok Lru) (cond (eqb l 77) (Ok Min) (cond (eqb l 68) (Ok Dpmin) (cond (eqb l 70) (Ok Fifo) (Err UnknownLetter))))
-
--- an answer that goes on from another, or is refused as that is
-abbrev pub and-then : {X Y E : Type 0} → Result X E → (X → Result Y E) → Result Y E
-and-then (Ok x) f = f x
-and-then (Err e) f = Err e
 
 -- what a call with a letter and a frame count answers: the letter is looked at first
 abbrev pub by-policy : {Y : Type 0} → ℕ → ℕ → (Policy → Result Y Refusal) → Result Y Refusal

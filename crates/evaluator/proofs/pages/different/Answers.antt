@@ -8,7 +8,7 @@ use lib.ListN.{length, getD, take}
 use Rattle.std.proofs.shelf.Lists.{take-more, take-all}
 use Rattle.paging.specs.Pages.{Pages, has, size, with-page}
 use Rattle.paging.specs.Sets.{pages}
-use Rattle.evaluator.proofs.Windows.{has-append}
+use Rattle.paging.proofs.Queues.{has-append}
 use Rattle.evaluator.proofs.pages.different.Needs as need
 
 has-push : (xs : List ℕ) (x : ℕ) → with-page x (has xs) ≡ has (xs ++ x ∷ [])
