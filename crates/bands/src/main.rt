@@ -1,4 +1,6 @@
 //! Prints the listing of the recording on standard input.
+#![tactic(auto)]
+
 ghost use Rattle.std.specs.Prelude.{◌≤◌, length, IfOk};
 
 use listing::listing;

@@ -1,4 +1,6 @@
 //! The trial: a string of page references, and what the policies, rankings and pagers make of it.
+#![tactic(auto)]
+
 ghost use Rattle.std.specs.Prelude.{◌≤◌};
 
 pub mod edges;

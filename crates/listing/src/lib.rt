@@ -1,4 +1,6 @@
 //! The listing: the faults of the policies at each frame count, as text.
+#![tactic(auto)]
+
 ghost use Rattle.std.specs.Prelude.{◌≡◌, ◌≤◌, length};
 ghost use Rattle.evaluator.specs.Answers.{write_answer, written};
 ghost use Rattle.listing.specs.Listings.{count_written, listing_text};

@@ -1,4 +1,6 @@
 //! Pagers: the trait, runs and plans.
+#![tactic(auto)]
+
 pub mod plans;
 pub mod runs;
 pub mod sets;

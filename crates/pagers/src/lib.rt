@@ -1,4 +1,6 @@
 //! The three pagers: FIFO over a table of frames, DPMIN by looking ahead, and the pager that any ranking makes.
+#![tactic(auto)]
+
 pub mod dpmin;
 pub mod fifo;
 pub mod ranked;

@@ -1,4 +1,6 @@
 //! What paging means: sets of pages, schedules, pagers, rankings and policies.
+#![tactic(auto)]
+
 pub mod frames;
 pub mod policy;
 pub mod refusal;

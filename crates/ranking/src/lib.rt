@@ -1,4 +1,6 @@
 //! Rankings of the codes, and the faults of their own runs at every frame count from one pass.
+#![tactic(auto)]
+
 ghost use Rattle.paging.specs.Rankings.{Orders, RankingModel, telling, told};
 ghost use Rattle.std.specs.Prelude.{◌≡◌, []};
 

@@ -1,4 +1,6 @@
 //! Replays strings in the plainest way, and compares what the evaluator answers with what it counts itself.
+#![tactic(auto)]
+
 mod calls;
 mod cases;
 mod figures;

@@ -6,21 +6,21 @@ use Rattle.listing.proofs.listing.Goals as goal
 
 pub returns-in-Ok : goal.returns-in-Ok
 returns-in-Ok c =
-    let e = accepted c.args.recording.now c.load-own.result c.in-Ok.field-0 (string c.load-own.new.trial)
-    c.load-own.ensures.answer c.in-Ok.is c.load-own.ensures.string in
+    let e = accepted c.args.recording.now c.load_own.result c.in-Ok.field-0 (string c.load_own.new.trial)
+    c.load_own.ensures.answer c.in-Ok.is c.load_own.ensures.string in
     record {
-      answer = c.put-figures.ensures.answer ∙ ap (λ (text : List ℕ). write_answer (length text) c.args.out.now) e;
-      bytes = c.put-figures.ensures.bytes ∙ ap (λ (text : List ℕ). written text c.args.out.now) e;
+      answer = c.put_figures.ensures.answer ∙ ap (λ (text : List ℕ). write_answer (length text) c.args.out.now) e;
+      bytes = c.put_figures.ensures.bytes ∙ ap (λ (text : List ℕ). written text c.args.out.now) e;
       some = some_text c.args.recording.now;
-      most = omega (arith, c.put-figures.ensures.most, ap length e);
+      most = omega (arith, c.put_figures.ensures.most, ap length e);
     }
 
 pub returns-in-Err : goal.returns-in-Err
 returns-in-Err c =
-    let e = refused c.args.recording.now c.load-own.result c.in-Err.fault c.load-own.ensures.answer c.in-Err.is in
+    let e = refused c.args.recording.now c.load_own.result c.in-Err.fault c.load_own.ensures.answer c.in-Err.is in
     record {
-      answer = c.put-fault.ensures.answer ∙ ap (λ (text : List ℕ). write_answer (length text) c.args.out.now) e;
-      bytes = c.put-fault.ensures.bytes ∙ ap (λ (text : List ℕ). written text c.args.out.now) e;
+      answer = c.put_fault.ensures.answer ∙ ap (λ (text : List ℕ). write_answer (length text) c.args.out.now) e;
+      bytes = c.put_fault.ensures.bytes ∙ ap (λ (text : List ℕ). written text c.args.out.now) e;
       some = some_text c.args.recording.now;
-      most = omega (arith, c.put-fault.ensures.most, ap length e);
+      most = omega (arith, c.put_fault.ensures.most, ap length e);
     }

@@ -11,22 +11,22 @@ use Rattle.evaluator.proofs.Trial.edge.Goals as goal
 pub returns-in-Lru : goal.returns-in-Lru
 returns-in-Lru c =
     let s = string c.args.self.now in
-    c.edge-of.ensures ∙ ap (λ (r : RankingModel). ranking_edge r s c.args.ceiling) c.new.ensures
-    ∙ at_policy c.args.letter Lru (policy_edge s c.args.ceiling) (chosen c.args.letter _ _ _ c.policy_of.ensures c.in-ok-policy-of.was c.in-Lru.is)
+    c.edge_of.ensures ∙ ap (λ (r : RankingModel). ranking_edge r s c.args.ceiling) c.new.ensures
+    ∙ at_policy c.args.letter Lru (policy_edge s c.args.ceiling) (chosen c.args.letter _ _ _ c.policy_of.ensures c.in_ok-policy_of.was c.in-Lru.is)
 
 pub returns-in-Min : goal.returns-in-Min
 returns-in-Min c =
     let s = string c.args.self.now in
-    c.edge-of-in-Min.ensures ∙ ap (λ (r : RankingModel). ranking_edge r s c.args.ceiling) c.new-in-Min.ensures
-    ∙ at_policy c.args.letter Min (policy_edge s c.args.ceiling) (chosen c.args.letter _ _ _ c.policy_of.ensures c.in-ok-policy-of.was c.in-Min.is)
+    c.edge_of-in-Min.ensures ∙ ap (λ (r : RankingModel). ranking_edge r s c.args.ceiling) c.new-in-Min.ensures
+    ∙ at_policy c.args.letter Min (policy_edge s c.args.ceiling) (chosen c.args.letter _ _ _ c.policy_of.ensures c.in_ok-policy_of.was c.in-Min.is)
 
-pub returns-in-ok-dpmin-row : goal.returns-in-ok-dpmin-row
-returns-in-ok-dpmin-row c =
+pub returns-in_ok-dpmin_row : goal.returns-in_ok-dpmin_row
+returns-in_ok-dpmin_row c =
     let s = string c.args.self.now in
     let cl = c.args.ceiling in
-    let row : c.in-ok-dpmin-row.field-0 ≡ instants_row Dpmin s =
-    let e : Ok c.in-ok-dpmin-row.field-0 ≡ Ok (instants_row Dpmin s) =
-    sym c.in-ok-dpmin-row.was ∙ c.dpmin-row.ensures ∙ ap (λ (xs : List ℕ). Ok (instants_row Dpmin xs)) c.codes.ensures.value in
+    let row : c.in_ok-dpmin_row.field-0 ≡ instants_row Dpmin s =
+    let e : Ok c.in_ok-dpmin_row.field-0 ≡ Ok (instants_row Dpmin s) =
+    sym c.in_ok-dpmin_row.was ∙ c.dpmin_row.ensures ∙ ap (λ (xs : List ℕ). Ok (instants_row Dpmin xs)) c.codes.ensures.value in
     cc in
     c.within.ensures ∙ ap (λ (xs : List ℕ). found (edge (at_count xs) cl)) row ∙ ap found (row_edge Dpmin s cl)
-    ∙ at_policy c.args.letter Dpmin (policy_edge s cl) (chosen c.args.letter _ _ _ c.policy_of.ensures c.in-ok-policy-of.was c.in-Dpmin.is)
+    ∙ at_policy c.args.letter Dpmin (policy_edge s cl) (chosen c.args.letter _ _ _ c.policy_of.ensures c.in_ok-policy_of.was c.in-Dpmin.is)

@@ -9,17 +9,17 @@ use Rattle.evaluator.proofs.Loads.{refused_string, loaded_counts, loaded_few}
 use Rattle.evaluator.proofs.Stores.{load_stores}
 use Rattle.evaluator.proofs.Trial.load.Goals as goal
 
-pub returns-in-err-counts : goal.returns-in-err-counts
-returns-in-err-counts g c =
+pub returns-in_err-counts : goal.returns-in_err-counts
+returns-in_err-counts g c =
     let kind = g.N.Name.kind in
     let width = g.N.Name.width in
     let places = length c.args.list.now.memory.now in
     let bytes = c.args.bytes.now in
-    let p = err_from_is_err_and c.from-residual.result c.from-residual.ensures.1 in
-    let same : c.from-residual.result ≡ c.decode.result = p.1 ∙ ap Err p.2 ∙ sym c.in-err-counts.was in
+    let p = err_from_is_err_and c.from_residual.result c.from_residual.ensures.1 in
+    let same : c.from_residual.result ≡ c.decode.result = p.1 ∙ ap Err p.2 ∙ sym c.in_err-counts.was in
     record {
       answer = same ∙ c.decode.ensures.answer;
-      string = sym (refused_string kind width places bytes _ (sym c.decode.ensures.answer ∙ c.in-err-counts.was));
+      string = sym (refused_string kind width places bytes _ (sym c.decode.ensures.answer ∙ c.in_err-counts.was));
       counts = rw p.1 tt;
       count = c.decode.ensures.count ∙
           ap (λ (r : Result Counts LoadFault). cond (is_ok r) (length (names_of (limit_of places) (names_recorded kind width bytes))) 0) (sym same);
@@ -34,10 +34,10 @@ returns g c =
     let width = g.N.Name.width in
     let memory = c.args.list.now.memory.now in
     let bytes = c.args.bytes.now in
-    let n = c.in-ok-counts.counts in
-    let coded = c.in-ok-counts.ensures.codes in
-    let answer = sym c.decode.ensures.answer ∙ c.in-ok-counts.was in
-    let count = c.in-ok-counts.ensures.count in
+    let n = c.in_ok-counts.counts in
+    let coded = c.in_ok-counts.ensures.codes in
+    let answer = sym c.decode.ensures.answer ∙ c.in_ok-counts.was in
+    let count = c.in_ok-counts.ensures.count in
     record {
       answer = sym answer;
       string = sym (ap loaded coded);
@@ -46,12 +46,12 @@ returns g c =
       memory = c.decode.ensures.memory;
       lender = c.decode.ensures.lender;
       stores = load_stores g.N.Name.bits g.N.Name.named kind width g.met.N.Name.mark g.met.N.Name.some g.met.N.Name.back memory
-          c.decode.new.list.memory.now c.decode.new.list.count n bytes _ (λ i h. omega (arith, c.type-inv.bytes i)) answer coded c.decode.ensures.memory count;
+          c.decode.new.list.memory.now c.decode.new.list.count n bytes _ (λ i h. omega (arith, c.type_inv.bytes i)) answer coded c.decode.ensures.memory count;
     }
 
-pub invariant-of-self-2 : goal.invariant-of-self-2
-invariant-of-self-2 g c = (
-  loaded_few g.N.Name.kind g.N.Name.width (length c.args.list.now.memory.now) c.args.bytes.now c.in-ok-counts.counts
-      _ (sym c.decode.ensures.answer ∙ c.in-ok-counts.was) c.in-ok-counts.ensures.codes,
+pub invariant_of-self-2 : goal.invariant_of-self-2
+invariant_of-self-2 g c = (
+  loaded_few g.N.Name.kind g.N.Name.width (length c.args.list.now.memory.now) c.args.bytes.now c.in_ok-counts.counts
+      _ (sym c.decode.ensures.answer ∙ c.in_ok-counts.was) c.in_ok-counts.ensures.codes,
   tt,
 )

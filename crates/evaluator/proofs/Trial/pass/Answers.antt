@@ -12,8 +12,8 @@ returns g c =
     let r = g.R.Ranking.order c.args.ranking.now in
     let s = string c.args.self.now in
     let t : leb 64 (length out) ≡ true = le-leb 64 (length out) c.if-out-lt64.false in
-    let row : c.copy-from-slice.new.self ≡ pass_row r s =
-    c.copy-from-slice.ensures.after ∙ c.pass_row.ensures.faults ∙ ap (pass_row r) c.codes.ensures.value in
+    let row : c.copy_from_slice.new.self ≡ pass_row r s =
+    c.copy_from_slice.ensures.after ∙ c.pass_row.ensures.faults ∙ ap (pass_row r) c.codes.ensures.value in
     record {
       answer = rw t;
       row = ap (λ (xs : List ℕ). xs ++ drop 64 out) row ∙ sym (cond-true (leb 64 (length out)) (pass_row r s ++ drop 64 out) out t);

@@ -13,7 +13,7 @@ loop-k-preserved c =
     let k = c.loop-k.k in
     let told : c.run.result.0 ≡ instants_at Dpmin s (k + 1) =
     ap (λ (p : ℕ × ℕ). p.0) c.run.ensures.figures
-    ∙ ap (λ (b : PagerModel). instants_on b s) (c.new-pager.ensures.holding ∙ ap (λ (f : ℕ). dpmin f nothing) c.in-ok-new.ensures.1) in (
+    ∙ ap (λ (b : PagerModel). instants_on b s) (c.new-pager.ensures.holding ∙ ap (λ (f : ℕ). dpmin f nothing) c.in_ok-new.ensures.1) in (
       length-set c.loop-k.row k c.run.result.0 ∙ c.loop-k.invariant.0,
       below_more _ _
           (λ j h. let ne : j ≢ k = omega arith in rw get_or-set_other (c.loop-k.invariant.1 j h))

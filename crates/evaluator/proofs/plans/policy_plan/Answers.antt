@@ -5,8 +5,8 @@ use Rattle.paging.specs.Rankings.{RankingModel, own}
 use Rattle.evaluator.proofs.ByLetter.{starts_empty, plan_same, answer_same, written_same}
 use Rattle.evaluator.proofs.plans.policy_plan.Goals as goal
 
-pub write-plan-requires : goal.write-plan-requires
-write-plan-requires c =
+pub write_plan-requires : goal.write_plan-requires
+write_plan-requires c =
     let f = frames_of c.args.frames in
     record {
       short = c.requires;
@@ -19,12 +19,12 @@ returns-in-Lru c =
     let f = frames_of c.args.frames in
     let e = plan_same Lru c.args.policy f c.args.string.now _ (c.new-in-Lru-2.ensures.holding ∙ ap (λ (r : RankingModel). own r f) c.new-in-Lru.ensures) c.in-Lru.is in
     record {
-      answer = answer_same _ _ c.args.out.now e _ c.write-plan.ensures.answer;
-      words = written_same _ _ c.args.out.now e _ c.write-plan.ensures.words;
+      answer = answer_same _ _ c.args.out.now e _ c.write_plan.ensures.answer;
+      words = written_same _ _ c.args.out.now e _ c.write_plan.ensures.words;
     }
 
-pub write-plan-requires-in-Min : goal.write-plan-requires-in-Min
-write-plan-requires-in-Min c =
+pub write_plan-requires-in-Min : goal.write_plan-requires-in-Min
+write_plan-requires-in-Min c =
     let f = frames_of c.args.frames in
     record {
       short = c.requires;
@@ -37,12 +37,12 @@ returns-in-Min c =
     let f = frames_of c.args.frames in
     let e = plan_same Min c.args.policy f c.args.string.now _ (c.new-in-Min-3.ensures.holding ∙ ap (λ (r : RankingModel). own r f) c.new-in-Min-2.ensures) c.in-Min.is in
     record {
-      answer = answer_same _ _ c.args.out.now e _ c.write-plan-in-Min.ensures.answer;
-      words = written_same _ _ c.args.out.now e _ c.write-plan-in-Min.ensures.words;
+      answer = answer_same _ _ c.args.out.now e _ c.write_plan-in-Min.ensures.answer;
+      words = written_same _ _ c.args.out.now e _ c.write_plan-in-Min.ensures.words;
     }
 
-pub write-plan-requires-in-Dpmin : goal.write-plan-requires-in-Dpmin
-write-plan-requires-in-Dpmin c =
+pub write_plan-requires-in-Dpmin : goal.write_plan-requires-in-Dpmin
+write_plan-requires-in-Dpmin c =
     let f = frames_of c.args.frames in
     record {
       short = c.requires;
@@ -55,12 +55,12 @@ returns-in-Dpmin c =
     let f = frames_of c.args.frames in
     let e = plan_same Dpmin c.args.policy f c.args.string.now _ c.new-in-Dpmin.ensures.holding c.in-Dpmin.is in
     record {
-      answer = answer_same _ _ c.args.out.now e _ c.write-plan-in-Dpmin.ensures.answer;
-      words = written_same _ _ c.args.out.now e _ c.write-plan-in-Dpmin.ensures.words;
+      answer = answer_same _ _ c.args.out.now e _ c.write_plan-in-Dpmin.ensures.answer;
+      words = written_same _ _ c.args.out.now e _ c.write_plan-in-Dpmin.ensures.words;
     }
 
-pub write-plan-requires-in-Fifo : goal.write-plan-requires-in-Fifo
-write-plan-requires-in-Fifo c =
+pub write_plan-requires-in-Fifo : goal.write_plan-requires-in-Fifo
+write_plan-requires-in-Fifo c =
     let f = frames_of c.args.frames in
     record {
       short = c.requires;
@@ -73,6 +73,6 @@ returns-in-Fifo c =
     let f = frames_of c.args.frames in
     let e = plan_same Fifo c.args.policy f c.args.string.now _ c.new-in-Fifo.ensures.holding c.in-Fifo.is in
     record {
-      answer = answer_same _ _ c.args.out.now e _ c.write-plan-in-Fifo.ensures.answer;
-      words = written_same _ _ c.args.out.now e _ c.write-plan-in-Fifo.ensures.words;
+      answer = answer_same _ _ c.args.out.now e _ c.write_plan-in-Fifo.ensures.answer;
+      words = written_same _ _ c.args.out.now e _ c.write_plan-in-Fifo.ensures.words;
     }

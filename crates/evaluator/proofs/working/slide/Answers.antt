@@ -11,7 +11,7 @@ returns-then-places-left c k =
     let y = get_or s (t - c.args.width) 0 in
     ap (λ (M : Pages). M k) (c.remove.ensures ∙ ap (without y) c.insert.ensures) ∙
     slide_goes c.args.width s t c.requires.within (pages c.args.set.now) c.requires.before c.if-t-width.true
-    (sym (c.requires.table y (omega (arith, c.type-inv.string (t - c.args.width)))) ∙ c.if-places-left.true) k
+    (sym (c.requires.table y (omega (arith, c.type_inv.string (t - c.args.width)))) ∙ c.if-places-left.true) k
 
 pub returns-else-places-left : goal.returns-else-places-left
 returns-else-places-left c k =
@@ -20,7 +20,7 @@ returns-else-places-left c k =
     let y = get_or s (t - c.args.width) 0 in
     ap (λ (M : Pages). M k) c.insert.ensures ∙
     slide_stays c.args.width s t c.requires.within (pages c.args.set.now) c.requires.before c.if-t-width.true
-    (λ e. c.if-places-left.false (c.requires.table y (omega (arith, c.type-inv.string (t - c.args.width))) ∙ e)) k
+    (λ e. c.if-places-left.false (c.requires.table y (omega (arith, c.type_inv.string (t - c.args.width))) ∙ e)) k
 
 pub returns-else-t-width : goal.returns-else-t-width
 returns-else-t-width c k =

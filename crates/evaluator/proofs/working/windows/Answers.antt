@@ -10,8 +10,8 @@ use Rattle.evaluator.proofs.Windows.{latest_none, latest_has, latest_set, missin
 use Rattle.evaluator.proofs.working.windows.Goals as goal
 use Rattle.evaluator.proofs.working.windows.Goals.{then-not-contains, else-not-contains}
 
-pub overflow-add-faults : goal.overflow-add-faults
-overflow-add-faults c = omega (arith, c.loop-t.invariant.4, c.loop-t-test.true, c.requires.few)
+pub overflow_add-faults : goal.overflow_add-faults
+overflow_add-faults c = omega (arith, c.loop-t.invariant.4, c.loop-t-test.true, c.requires.few)
 
 pub slide-requires : goal.slide-requires
 slide-requires c =
@@ -20,11 +20,11 @@ slide-requires c =
       few = c.requires.few;
       some = c.requires.some;
       before = c.loop-t.invariant.1;
-      table = latest_set c.args.string.now c.loop-t.places c.loop-t.t c.loop-t.invariant.0 c.loop-t-test.true (omega (arith, c.type-inv.string c.loop-t.t)) c.loop-t.invariant.2;
+      table = latest_set c.args.string.now c.loop-t.places c.loop-t.t c.loop-t.invariant.0 c.loop-t-test.true (omega (arith, c.type_inv.string c.loop-t.t)) c.loop-t.invariant.2;
     }
 
-pub overflow-add-sum : goal.overflow-add-sum
-overflow-add-sum c = omega (arith, c.loop-t.invariant.6, c.len-sum.ensures, size_most (pages c.slide.new.set), c.loop-t-test.true, c.requires.few)
+pub overflow_add-sum : goal.overflow_add-sum
+overflow_add-sum c = omega (arith, c.loop-t.invariant.6, c.len-sum.ensures, size_most (pages c.slide.new.set), c.loop-t-test.true, c.requires.few)
 
 pub loop-t-init : goal.loop-t-init
 loop-t-init c = (
@@ -53,7 +53,7 @@ loop-t-preserved c =
     ] in (
       length-set c.loop-t.places (get_or s t 0) (t + 1) ∙ inv.0,
       c.slide.ensures,
-      latest_set s c.loop-t.places t inv.0 c.loop-t-test.true (omega (arith, c.type-inv.string t)) inv.2,
+      latest_set s c.loop-t.places t inv.0 c.loop-t-test.true (omega (arith, c.type_inv.string t)) inv.2,
       e.0,
       e.1,
       omega (arith, inv.5, c.len-sum.ensures, sizes_more w s t (pages c.slide.new.set) c.slide.ensures),

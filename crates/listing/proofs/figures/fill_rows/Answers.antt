@@ -17,10 +17,10 @@ bounds-lru-i c = omega (arith, c.requires, c.loop-i-test.true)
 pub bounds-min-i : goal.bounds-min-i
 bounds-min-i c = omega (arith, c.requires, c.loop-i-test.true)
 
-pub returns-in-err-dpmin : goal.returns-in-err-dpmin
-returns-in-err-dpmin c =
+pub returns-in_err-dpmin : goal.returns-in_err-dpmin
+returns-in_err-dpmin c =
     let e = dpmin_figures (c.loop-i.i + 1) (string c.args.trial.now) (omega arith) (omega (arith, c.requires, c.loop-i-test.true)) in
-    let z : ◌≡◌ {A = ℕ} 0 1 = cc (e, c.in-err-dpmin.was, c.figures.ensures) in
+    let z : ◌≡◌ {A = ℕ} 0 1 = cc (e, c.in_err-dpmin.was, c.figures.ensures) in
     absurd (omega (arith, z))
 
 pub loop-i-preserved : goal.loop-i-preserved
@@ -29,8 +29,8 @@ loop-i-preserved c =
     let i = c.loop-i.i in
     let h : i < 64 = omega (arith, c.requires, c.loop-i-test.true) in
     let f = dpmin_figures (i + 1) s (omega arith) (omega (arith, h)) in
-    let e = same_pair c.figures.result c.in-ok-dpmin.dpmin c.in-ok-dpmin.pulls _ _ c.in-ok-dpmin.was (c.figures.ensures ∙ f) in
-    let made = row_made s (i + 1) _ _ c.in-ok-dpmin.dpmin c.in-ok-dpmin.pulls
+    let e = same_pair c.figures.result c.in_ok-dpmin.dpmin c.in_ok-dpmin.pulls _ _ c.in_ok-dpmin.was (c.figures.ensures ∙ f) in
+    let made = row_made s (i + 1) _ _ c.in_ok-dpmin.dpmin c.in_ok-dpmin.pulls
     (pass_at (last_order c.new.result) (last_told untold) s (replicate 64 0) c.pass.new.out i c.pass.ensures.row refl c.new.ensures h)
     (pass_at (next_order c.new-2.result) (next_told untold) s (replicate 64 0) c.pass-2.new.out i c.pass-2.ensures.row refl c.new-2.ensures h)
     e.0 e.1 in

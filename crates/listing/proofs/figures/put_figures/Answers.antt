@@ -10,9 +10,9 @@ use Rattle.listing.proofs.figures.put_figures.Goals as goal
 pub returns : goal.returns
 returns c =
     let s = string c.args.trial.now in
-    let e = first_rows (replicate 64 no_row) c.row-count-count.result (page_count s) refl c.row-count-count.ensures in
+    let e = first_rows (replicate 64 no_row) c.row_count-count.result (page_count s) refl c.row_count-count.ensures in
     record {
-      answer = c.put-rows.ensures.answer ∙ ap (λ (n : ℕ). write_answer (length (table_text (rows_of s n))) c.args.out.now) e;
-      bytes = c.put-rows.ensures.bytes ∙ ap (λ (n : ℕ). written (table_text (rows_of s n)) c.args.out.now) e;
-      most = omega (arith, c.put-rows.ensures.most, ap (λ (n : ℕ). length (table_text (rows_of s n))) e);
+      answer = c.put_rows.ensures.answer ∙ ap (λ (n : ℕ). write_answer (length (table_text (rows_of s n))) c.args.out.now) e;
+      bytes = c.put_rows.ensures.bytes ∙ ap (λ (n : ℕ). written (table_text (rows_of s n)) c.args.out.now) e;
+      most = omega (arith, c.put_rows.ensures.most, ap (λ (n : ℕ). length (table_text (rows_of s n))) e);
     }

@@ -7,7 +7,7 @@ use Rattle.listing.proofs.figures.put_rows.Goals as goal
 pub returns : goal.returns
 returns c =
     record {
-      answer = c.put-table.ensures.answer ∙ ap (λ (rs : List Row). write_answer (length (table_text rs)) c.args.out.now) c.fill-rows.ensures.rows;
-      bytes = c.put-table.ensures.bytes ∙ ap (λ (rs : List Row). written (table_text rs) c.args.out.now) c.fill-rows.ensures.rows;
-      most = omega (arith, c.put-table.ensures.most, ap (λ (rs : List Row). length (table_text rs)) c.fill-rows.ensures.rows);
+      answer = c.put_table.ensures.answer ∙ ap (λ (rs : List Row). write_answer (length (table_text rs)) c.args.out.now) c.fill_rows.ensures.rows;
+      bytes = c.put_table.ensures.bytes ∙ ap (λ (rs : List Row). written (table_text rs) c.args.out.now) c.fill_rows.ensures.rows;
+      most = omega (arith, c.put_table.ensures.most, ap (λ (rs : List Row). length (table_text rs)) c.fill_rows.ensures.rows);
     }

@@ -17,4 +17,4 @@ returns c =
     let n = field (number e.refusal) 44 in
     let l = layer_text e.layer in
     let p = field e.place 10 in
-    record { value = omega (arith, length-append n (l ++ p), length-append l p, length_layer e.layer, length_push (decimal (number e.refusal)) 44, length_push (decimal e.place) 10, c.field-len.ensures.value, c.field-len-2.ensures.value, ap (λ (k : ℕ). length (decimal k)) c.number.ensures); bound = omega (arith, c.field-len.ensures.bound, c.field-len-2.ensures.bound) }
+    record { value = omega (arith, length-append n (l ++ p), length-append l p, length_layer e.layer, length_push (decimal (number e.refusal)) 44, length_push (decimal e.place) 10, c.field_len.ensures.value, c.field_len-2.ensures.value, ap (λ (k : ℕ). length (decimal k)) c.number.ensures); bound = omega (arith, c.field_len.ensures.bound, c.field_len-2.ensures.bound) }

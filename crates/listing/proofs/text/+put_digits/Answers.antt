@@ -8,14 +8,14 @@ bounds-out-at t c = omega (arith, length_one c.args.n c.if-n-lt10.true)
 pub returns-then-n-lt10 : goal.returns-then-n-lt10
 returns-then-n-lt10 t c = search (rules, length_one, overlay_one)
 
-pub put-digits-end-requires : goal.put-digits-end-requires
-put-digits-end-requires t c = search (rules, length_more)
+pub put_digits-end-requires : goal.put_digits-end-requires
+put_digits-end-requires t c = search (rules, length_more)
 
 pub bounds-out-end : goal.bounds-out-end
 bounds-out-end t c = search (rules, length_more)
 
-pub overflow-add-result-2 : goal.overflow-add-result-2
-overflow-add-result-2 t c = search (rules, length_more)
+pub overflow_add-result-2 : goal.overflow_add-result-2
+overflow_add-result-2 t c = search (rules, length_more)
 
 pub returns : goal.returns
 returns t c = search (rules, length_more, overlay_step)

@@ -21,8 +21,8 @@ loop-place-init g c =
       refl,
     )
 
-pub write-moves-count-requires : goal.write-moves-count-requires
-write-moves-count-requires g c =
+pub write_moves-count-requires : goal.write_moves-count-requires
+write_moves-count-requires g c =
     let b = g.P.Pager.holding c.args.pager.now in
     let m = g.P.Pager.holding c.loop-place.pager in
     let m' = g.P.Pager.holding c.serve-pulls.new.self in
@@ -50,11 +50,11 @@ loop-place-preserved g c =
       | then-pulls-gt0 w ↦ (
         next,
         ap pages w.before-is ∙ w.snapshot-now.ensures,
-        w.count_is ∙ w.write-moves-count.ensures.count ∙
+        w.count_is ∙ w.write_moves-count.ensures.count ∙
             plan_count b m m' s t c.loop-place-test.true inv.0 c.serve-pulls.ensures.moves
             old c.loop-place.out c.loop-place.count c.requires.fits inv.2 inv.3
             (pages c.loop-place.before) (pages w.snapshot-now.result) inv.1 w.snapshot-now.ensures,
-        w.out-is ∙ w.write-moves-count.ensures.wrote ∙
+        w.out-is ∙ w.write_moves-count.ensures.wrote ∙
             plan_wrote b m m' s t c.loop-place-test.true inv.0 c.serve-pulls.ensures.moves
             old c.loop-place.out c.loop-place.count c.requires.fits inv.2 inv.3
             (pages c.loop-place.before) (pages w.snapshot-now.result) inv.1 w.snapshot-now.ensures,
@@ -63,7 +63,7 @@ loop-place-preserved g c =
       | else-pulls-gt0+else-held-were w ↦
           let none : pulled (m []) (m' []) ≡ 0 = sym c.serve-pulls.ensures.answer ∙ omega (arith, w.if-pulls-gt0.false) in
           let same : size (m' []) ≡ size (m []) =
-          sym c.held-count-held.ensures ∙ w.if-held-were.false ∙ c.len-were.ensures ∙ ap size inv.1 ∙ clip_size (m []) in
+          sym c.held_count-held.ensures ∙ w.if-held-were.false ∙ c.len-were.ensures ∙ ap size inv.1 ∙ clip_size (m []) in
           let still = plan_still b m m' s t c.loop-place-test.true inv.0 c.serve-pulls.ensures.moves
           old c.loop-place.out c.loop-place.count c.requires.fits inv.2 inv.3 none same in (
             next,

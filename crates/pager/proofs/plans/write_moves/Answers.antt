@@ -6,8 +6,8 @@ use Rattle.pager.specs.Plans.{less, words, moves, written}
 use Rattle.pager.proofs.Words.{written_both, written_long}
 use Rattle.pager.proofs.plans.write_moves.Goals as goal
 
-pub write-words-next-requires : goal.write-words-next-requires
-write-words-next-requires c =
+pub write_words-next-requires : goal.write_words-next-requires
+write_words-next-requires c =
     let M = pages c.args.before.now in
     let N = pages c.args.after.now in
     let p = c.args.place in
@@ -16,8 +16,8 @@ write-words-next-requires c =
       fits = omega (arith, c.requires.fits, length-append (words p 0 (less M N) codes) (words p 1 (less N M) codes));
     }
 
-pub write-words-requires : goal.write-words-requires
-write-words-requires c =
+pub write_words-requires : goal.write_words-requires
+write_words-requires c =
     let M = pages c.args.before.now in
     let N = pages c.args.after.now in
     let p = c.args.place in
@@ -28,8 +28,8 @@ write-words-requires c =
         arith,
         c.requires.fits,
         both,
-        c.write-words-next.ensures.count,
-        ap length c.write-words-next.ensures.wrote,
+        c.write_words-next.ensures.count,
+        ap length c.write_words-next.ensures.wrote,
         written_long c.args.out.now c.args.from (words p 0 (less M N) codes) (omega (arith, c.requires.fits)),
       );
     }
@@ -45,10 +45,10 @@ returns c =
     let ys = words p 1 (less N M) codes in
     let both = length-append xs ys in
     record {
-      count = omega (arith, both, c.write-words-next.ensures.count, c.write-words.ensures.count);
+      count = omega (arith, both, c.write_words-next.ensures.count, c.write_words.ensures.count);
       wrote =
-          c.write-words.ensures.wrote ∙
-          ap (λ (r : List ℕ). written r c.write-words-next.result ys) c.write-words-next.ensures.wrote ∙
-          ap (λ (m : ℕ). written (written old from xs) m ys) c.write-words-next.ensures.count ∙
+          c.write_words.ensures.wrote ∙
+          ap (λ (r : List ℕ). written r c.write_words-next.result ys) c.write_words-next.ensures.wrote ∙
+          ap (λ (m : ℕ). written (written old from xs) m ys) c.write_words-next.ensures.count ∙
           written_both old from xs ys (omega (arith, c.requires.fits));
     }

@@ -15,8 +15,8 @@ loop-code-init c =
       sym (ap (written c.args.out.now c.args.from) e ∙ written_none c.args.out.now c.args.from (omega (arith, c.requires.fits))),
     )
 
-pub offset-bounds-out-next : goal.offset-bounds-out-next
-offset-bounds-out-next c =
+pub offset_bounds-out-next : goal.offset_bounds-out-next
+offset_bounds-out-next c =
     let P = less (pages c.args.one.now) (pages c.args.other.now) in
     let r = words_room c.args.place c.args.kind P c.loop-code.code codes c.loop-code-test.true (sym c.lacks.ensures ∙ c.if-lacks.true) in
     let l : c.loop-code.next < length c.args.out.now = omega (arith, c.requires.fits, c.loop-code.invariant.0) in
@@ -32,8 +32,8 @@ bounds-out-next c =
       words_room c.args.place c.args.kind P c.loop-code.code codes c.loop-code-test.true (sym c.lacks.ensures ∙ c.if-lacks.true),
     )
 
-pub overflow-add-next : goal.overflow-add-next
-overflow-add-next c =
+pub overflow_add-next : goal.overflow_add-next
+overflow_add-next c =
     let P = less (pages c.args.one.now) (pages c.args.other.now) in
     let r = words_room c.args.place c.args.kind P c.loop-code.code codes c.loop-code-test.true (sym c.lacks.ensures ∙ c.if-lacks.true) in
     let l : c.loop-code.next < length c.args.out.now = omega (arith, c.requires.fits, c.loop-code.invariant.0) in

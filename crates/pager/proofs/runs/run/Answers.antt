@@ -21,8 +21,8 @@ loop-place-init g c =
       refl,
     )
 
-pub overflow-add-pulls : goal.overflow-add-pulls
-overflow-add-pulls g c =
+pub overflow_add-pulls : goal.overflow_add-pulls
+overflow_add-pulls g c =
     let m = g.P.Pager.holding c.loop-place.pager in
     let m' = g.P.Pager.holding c.serve-pulls.new.self in
     omega (arith, c.serve-pulls.ensures.answer, pulled_most (m []) (m' []))

@@ -13,5 +13,5 @@ loop-t-preserved c =
     let t = c.loop-t.t in
     let x = get_or s (t - 1) 0 in
     let inv = c.loop-t.invariant in
-    let r = step_back s c.loop-t.nearest c.loop-t.after t (t - 1) x (omega arith) inv.0 (omega arith) inv.1 (omega arith) (omega (arith, c.type-inv.string (t - 1))) refl inv.3 inv.4 in
+    let r = step_back s c.loop-t.nearest c.loop-t.after t (t - 1) x (omega arith) inv.0 (omega arith) inv.1 (omega arith) (omega (arith, c.type_inv.string (t - 1))) refl inv.3 inv.4 in
     (omega arith, length-set _ _ _ ∙ inv.1, length-set _ _ _ ∙ inv.2, r.0, r.1)

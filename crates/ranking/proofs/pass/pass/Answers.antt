@@ -48,11 +48,11 @@ loop-i-preserved g c =
     let small : i < 65535 = omega arith in
     let Tell : ℕ → ℕ → RankingModel = λ p n. told r (telling x p n) in
     let moves : r' ≡ Tell (suc i) (next_place (suc i) x (drop (suc i) s)) =
-    c.tell.ensures ∙ ap (λ (p : ℕ). Tell p (get_or c.next-places-after.result i 0)) (add-one i) ∙
-    ap (λ (n : ℕ). Tell (suc i) n) (c.next-places-after.ensures i (omega arith) h) in (
-      c.type-inv.row,
+    c.tell.ensures ∙ ap (λ (p : ℕ). Tell p (get_or c.next_places-after.result i 0)) (add-one i) ∙
+    ap (λ (n : ℕ). Tell (suc i) n) (c.next_places-after.ensures i (omega arith) h) in (
+      c.type_inv.row,
       subst (λ (zs : List ℕ). once zs ≡ true) (sym after) (once_take 64 (restacked (r' []) x st) (once_restacked (r' []) x st inv.1)),
-      subst (λ (zs : List ℕ). coded zs ≡ true) (sym after) (coded_take 64 (restacked (r' []) x st) (coded_restacked (r' []) x st (omega (arith, c.type-inv.string i)) inv.2)),
+      subst (λ (zs : List ℕ). coded zs ≡ true) (sym after) (coded_take 64 (restacked (r' []) x st) (coded_restacked (r' []) x st (omega (arith, c.type_inv.string i)) inv.2)),
       λ f l. omega (arith, c.charge.ensures f l, at_most (not (has (take (suc f) st) x)), inv.3 f l),
       λ f l. subst (λ (k : ℕ). Tracked r₀ r' nothing s st' k (get_or c.charge.new.row f 0) f) (sym (add-one i))
           (tracked_more r₀ r r' nothing s st st' i (get_or c.loop-i.row f 0) (get_or c.charge.new.row f 0) f orders inv.1 inv.2 h small moves (c.charge.ensures f l) after l (inv.4 f l)),

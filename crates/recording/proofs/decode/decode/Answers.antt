@@ -4,8 +4,8 @@ use Rattle.std.proofs.lemmas.Result.{err_from_is_err_and}
 use Rattle.recording.proofs.Progress.{refused_layout}
 use Rattle.recording.proofs.decode.decode.Goals as goal
 
-pub returns-in-err-count : goal.returns-in-err-count
-returns-in-err-count g c =
-    let p = err_from_is_err_and c.from-residual.result c.from-residual.ensures.1 in
-    let q = refused_layout g.N.Name.named g.N.Name.kind g.N.Name.width _ c.args.bytes.now c.args.list.now.memory.now c.args.codes.now _ _ _ c.kind-number.ensures c.bit-width.ensures (sym c.checked-layout.ensures ∙ c.in-err-count.was) in
+pub returns-in_err-count : goal.returns-in_err-count
+returns-in_err-count g c =
+    let p = err_from_is_err_and c.from_residual.result c.from_residual.ensures.1 in
+    let q = refused_layout g.N.Name.named g.N.Name.kind g.N.Name.width _ c.args.bytes.now c.args.list.now.memory.now c.args.codes.now _ _ _ c.kind_number.ensures c.bit_width.ensures (sym c.checked_layout.ensures ∙ c.in_err-count.was) in
     rw (p.1, p.2) (record { answer = q.0; codes = tt; named = tt; written = q.2; count = c.clear.ensures.count; memory = c.clear.ensures.memory ∙ q.1; lender = c.clear.ensures.lender })

@@ -13,8 +13,8 @@ use Rattle.recording.proofs.Counted.{counted_answer}
 use Rattle.recording.proofs.Progress.{turn_more, turn_refused, progress_codes, progress_written, progress_ended}
 use Rattle.recording.proofs.decode.read_names.Goals as goal
 
-pub invariant-of-reader : goal.invariant-of-reader
-invariant-of-reader g c =
+pub invariant_of-reader : goal.invariant_of-reader
+invariant_of-reader g c =
     let w = g.N.Name.width in
     let narrow : w ≤ 16 = g.met.N.Name.most in
     let most = mul-le c.args.count w 4096 16 c.requires.most narrow in
@@ -22,34 +22,34 @@ invariant-of-reader g c =
     let same = ap length c.loop-i.invariant.1 in
     (omega (arith, c.loop-i.invariant.0.place), (omega (arith, c.loop-i.invariant.0.place), tt))
 
-pub next-name-requires : goal.next-name-requires
-next-name-requires g c =
+pub next_name-requires : goal.next_name-requires
+next_name-requires g c =
     let w = g.N.Name.width in
     let at = mul-le (c.loop-i.i + 1) w c.args.count w (omega arith) (omega arith) in
     let same = ap length c.loop-i.invariant.1 in
     omega (arith, c.loop-i.invariant.0.place, add-mul c.loop-i.i 1 w)
 
-pub returns-in-err-found : goal.returns-in-err-found
-returns-in-err-found g c =
-    let p = err_from_is_err_and c.from-residual.result c.from-residual.ensures.1 in
-    let q = turn_refused g.N.Name.bits g.N.Name.named g.N.Name.width g.met.N.Name.back _ _ _ _ _ _ _ _ _ c.loop-i.invariant.0 c.loop-i-test.true _ c.loop-i.invariant.1 c.requires.most _ _ c.next-name.ensures.memory c.next-name.ensures.count _ (sym c.next-name.ensures.answer ∙ c.in-err-found.was) in
-    rw (p.1, p.2) (record { answer = q.0; codes = tt; named = tt; written = q.2; count = q.1.counts; memory = q.1.records; lender = c.next-name.ensures.lender ∙ c.loop-i.invariant.2 })
+pub returns-in_err-found : goal.returns-in_err-found
+returns-in_err-found g c =
+    let p = err_from_is_err_and c.from_residual.result c.from_residual.ensures.1 in
+    let q = turn_refused g.N.Name.bits g.N.Name.named g.N.Name.width g.met.N.Name.back _ _ _ _ _ _ _ _ _ c.loop-i.invariant.0 c.loop-i-test.true _ c.loop-i.invariant.1 c.requires.most _ _ c.next_name.ensures.memory c.next_name.ensures.count _ (sym c.next_name.ensures.answer ∙ c.in_err-found.was) in
+    rw (p.1, p.2) (record { answer = q.0; codes = tt; named = tt; written = q.2; count = q.1.counts; memory = q.1.records; lender = c.next_name.ensures.lender ∙ c.loop-i.invariant.2 })
 
 -- a yes counts one
 byte_bit : (b : Bool) → bool_byte b ≡ bit b
 byte_bit true = refl
 byte_bit false = refl
 
-pub overflow-add-names : goal.overflow-add-names
-overflow-add-names g c = omega (arith, c.loop-i.invariant.0.within, c.loop-i.invariant.3, byte_bit c.in-ok-found.found.added, bit_most c.in-ok-found.found.added)
+pub overflow_add-names : goal.overflow_add-names
+overflow_add-names g c = omega (arith, c.loop-i.invariant.0.within, c.loop-i.invariant.3, byte_bit c.in_ok-found.found.added, bit_most c.in_ok-found.found.added)
 
 pub loop-i-preserved : goal.loop-i-preserved
 loop-i-preserved g c =
-    let turn = turn_more g.N.Name.bits g.N.Name.named g.N.Name.width g.met.N.Name.back _ _ _ _ _ _ _ _ _ c.loop-i.invariant.0 c.loop-i-test.true _ c.loop-i.invariant.1 c.requires.most _ _ c.next-name.ensures.memory c.next-name.ensures.count _ _ _ c.next-name.ensures.at (sym c.next-name.ensures.answer ∙ c.in-ok-found.was) refl in (
+    let turn = turn_more g.N.Name.bits g.N.Name.named g.N.Name.width g.met.N.Name.back _ _ _ _ _ _ _ _ _ c.loop-i.invariant.0 c.loop-i-test.true _ c.loop-i.invariant.1 c.requires.most _ _ c.next_name.ensures.memory c.next_name.ensures.count _ _ _ c.next_name.ensures.at (sym c.next_name.ensures.answer ∙ c.in_ok-found.was) refl in (
       turn.0,
-      c.next-name.ensures.bytes ∙ c.loop-i.invariant.1,
-      c.next-name.ensures.lender ∙ c.loop-i.invariant.2,
-      omega (arith, turn.1, c.loop-i.invariant.3, byte_bit c.in-ok-found.found.added),
+      c.next_name.ensures.bytes ∙ c.loop-i.invariant.1,
+      c.next_name.ensures.lender ∙ c.loop-i.invariant.2,
+      omega (arith, turn.1, c.loop-i.invariant.3, byte_bit c.in_ok-found.found.added),
     )
 
 pub returns : goal.returns

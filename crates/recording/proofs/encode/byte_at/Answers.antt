@@ -9,5 +9,5 @@ loop-k-init g c = (number_none _ _, omega arith)
 
 pub loop-k-preserved : goal.loop-k-preserved
 loop-k-preserved g c =
-    let low : c.bit-at.result < 2 = rw c.bit-at.ensures (recording_bit_below _ _ _ _) in
-    (ap (λ b. c.loop-k.byte * 2 + b) c.bit-at.ensures ∙ number_more _ _ _ _ c.loop-k.invariant.0, bit_more _ _ _ c.loop-k.invariant.1 low)
+    let low : c.bit_at.result < 2 = rw c.bit_at.ensures (recording_bit_below _ _ _ _) in
+    (ap (λ b. c.loop-k.byte * 2 + b) c.bit_at.ensures ∙ number_more _ _ _ _ c.loop-k.invariant.0, bit_more _ _ _ c.loop-k.invariant.1 low)

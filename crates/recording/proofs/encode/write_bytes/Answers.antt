@@ -7,4 +7,4 @@ pub loop-i-init : goal.loop-i-init
 loop-i-init g c = written_none _ _
 
 pub loop-i-preserved : goal.loop-i-preserved
-loop-i-preserved g c = written_more _ _ _ _ _ c.loop-i.invariant c.byte-at.ensures (omega arith)
+loop-i-preserved g c = written_more _ _ _ _ _ c.loop-i.invariant c.byte_at.ensures (omega arith)

@@ -3,7 +3,7 @@ use Rattle.std.proofs.Common.{arith}
 use Rattle.std.proofs.lemmas.Nat.{mul-le}
 use Rattle.recording.proofs.layout.checked_body.Goals as goal
 
-pub invariant-of-reader : goal.invariant-of-reader
-invariant-of-reader c =
+pub invariant_of-reader : goal.invariant_of-reader
+invariant_of-reader c =
     let most = mul-le c.args.count c.args.width 4096 16 c.requires.count c.requires.width in
     (omega arith, (omega arith, tt))

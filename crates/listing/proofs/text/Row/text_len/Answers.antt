@@ -14,11 +14,11 @@ returns c =
     record {
       value = omega (
         arith,
-        c.field-len.ensures.value,
-        c.field-len-2.ensures.value,
-        c.field-len-3.ensures.value,
-        c.field-len-4.ensures.value,
-        c.field-len-5.ensures.value,
+        c.field_len.ensures.value,
+        c.field_len-2.ensures.value,
+        c.field_len-3.ensures.value,
+        c.field_len-4.ensures.value,
+        c.field_len-5.ensures.value,
         length-append a (b ++ (m ++ (d ++ p))),
         length-append b (m ++ (d ++ p)),
         length-append m (d ++ p),
@@ -29,5 +29,5 @@ returns c =
         length_push (decimal r.dpmin) 44,
         length_push (decimal r.pulls) 10,
       );
-      bound = omega (arith, c.field-len.ensures.bound, c.field-len-2.ensures.bound, c.field-len-3.ensures.bound, c.field-len-4.ensures.bound, c.field-len-5.ensures.bound);
+      bound = omega (arith, c.field_len.ensures.bound, c.field_len-2.ensures.bound, c.field_len-3.ensures.bound, c.field_len-4.ensures.bound, c.field_len-5.ensures.bound);
     }

@@ -10,7 +10,7 @@ returns c =
     record {
       set =
           fault_done c.args.frames c.args.row.now c.collect.result c.fill.result (pages c.args.held.now)
-          (pages c.collect.new.new) (pages c.fill.new.new) (λ j. omega (arith, c.type-inv.row j)) (flagged_low c.args.held.now.held c.args.held.now.wide)
+          (pages c.collect.new.new) (pages c.fill.new.new) (λ j. omega (arith, c.type_inv.row j)) (flagged_low c.args.held.now.held c.args.held.now.wide)
           c.collect.ensures.set c.collect.ensures.high c.collect.ensures.full
           c.fill.ensures.set c.fill.ensures.small c.fill.ensures.full c.fill.ensures.none;
       small = c.fill.ensures.small;

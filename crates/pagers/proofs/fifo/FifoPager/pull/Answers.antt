@@ -13,16 +13,16 @@ use Rattle.pagers.proofs.fifo.FifoPager.pull.Goals as goal
 stored : (fs : List Frame) (i : ℕ) (f : Frame) (c : ℕ) → f.code ≡ c → codes_of (set fs i f) ≡ set (codes_of fs) i c
 stored fs i f c e = map-set code_of fs i f ∙ ap (λ (x : ℕ). set (codes_of fs) i x) e
 
-pub invariant-of-self : goal.invariant-of-self
-invariant-of-self c =
+pub invariant_of-self : goal.invariant_of-self
+invariant_of-self c =
     let s = c.args.self.now in
     let x = c.args.code in
-    let n = c.one-more-self.result in
+    let n = c.one_more-self.result in
     let h = c.onward-self.result in
     let e = stored s.frames s.hand c.load.new.self x c.load.ensures in
     let q : queue n h (codes_of (set s.frames s.hand c.load.new.self)) ≡ fifo_in s.room x (queue_of s) =
-    ap (queue n h) e ∙ queue_pull (codes_of s.frames) s.room s.used s.hand (omega (arith, s.wide, s.most)) s.within s.at s.filling x n h c.one-more-self.ensures c.onward-self.ensures in
-    let m = hand_on (codes_of s.frames) s.room s.used s.hand (omega (arith, s.wide, s.most)) s.within s.at s.filling x n h c.one-more-self.ensures c.onward-self.ensures in (
+    ap (queue n h) e ∙ queue_pull (codes_of s.frames) s.room s.used s.hand (omega (arith, s.wide, s.most)) s.within s.at s.filling x n h c.one_more-self.ensures c.onward-self.ensures in
+    let m = hand_on (codes_of s.frames) s.room s.used s.hand (omega (arith, s.wide, s.most)) s.within s.at s.filling x n h c.one_more-self.ensures c.onward-self.ensures in (
       s.most,
       (
         m.0,
@@ -46,10 +46,10 @@ pub returns : goal.returns
 returns c =
     let s = c.args.self.now in
     let x = c.args.code in
-    let n = c.one-more-self.result in
+    let n = c.one_more-self.result in
     let h = c.onward-self.result in
     let e = stored s.frames s.hand c.load.new.self x c.load.ensures in
     record {
-      queue = ap (queue n h) e ∙ queue_pull (codes_of s.frames) s.room s.used s.hand (omega (arith, s.wide, s.most)) s.within s.at s.filling x n h c.one-more-self.ensures c.onward-self.ensures ∙ sym (fifo_miss s.room x [] (queue_of s) c.requires);
+      queue = ap (queue n h) e ∙ queue_pull (codes_of s.frames) s.room s.used s.hand (omega (arith, s.wide, s.most)) s.within s.at s.filling x n h c.one_more-self.ensures c.onward-self.ensures ∙ sym (fifo_miss s.room x [] (queue_of s) c.requires);
       room = refl;
     }

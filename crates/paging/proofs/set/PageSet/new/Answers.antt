@@ -5,8 +5,8 @@ use Rattle.paging.proofs.Sets.{flagged_none}
 use Rattle.paging.proofs.Sets.{size_nothing}
 use Rattle.paging.proofs.set.PageSet.new.Goals as goal
 
-pub invariant-of-result : goal.invariant-of-result
-invariant-of-result c = (sym (ap size (flagged_none 256) ∙ size_nothing), (refl, tt))
+pub invariant_of-result : goal.invariant_of-result
+invariant_of-result c = record { counted = sym (ap size (flagged_none 256) ∙ size_nothing); wide = refl }
 
 pub returns : goal.returns
 returns c = flagged_none 256

@@ -5,12 +5,12 @@ use Rattle.paging.specs.Flags.{flagged}
 use Rattle.paging.proofs.Sets.{count_out}
 use Rattle.paging.proofs.set.PageSet.remove.Goals as goal
 
-pub overflow-sub-self : goal.overflow-sub-self
-overflow-sub-self c =
+pub overflow_sub-self : goal.overflow_sub-self
+overflow_sub-self c =
     omega (arith, count_out c.args.self.now.held c.args.code c.args.self.now.count (omega arith) (omega arith) c.if-self-code.true c.args.self.now.counted)
 
-pub invariant-of-self : goal.invariant-of-self
-invariant-of-self c = (
-  omega (arith, count_out c.args.self.now.held c.args.code c.args.self.now.count (omega arith) (omega arith) c.if-self-code.true c.args.self.now.counted),
-  (simp length-set c.args.self.now.wide, tt),
-)
+pub invariant_of-self : goal.invariant_of-self
+invariant_of-self c = record {
+  counted = omega (arith, count_out c.args.self.now.held c.args.code c.args.self.now.count (omega arith) (omega arith) c.if-self-code.true c.args.self.now.counted);
+  wide = simp length-set c.args.self.now.wide;
+}

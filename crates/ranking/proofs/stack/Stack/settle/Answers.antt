@@ -4,7 +4,7 @@ use Rattle.ranking.specs.Stack.{sift, restacked, stacked}
 use Rattle.ranking.specs.declared.stack.Stack.{Stack}
 use Rattle.ranking.proofs.Settles.{found, onto, stays, room, full, none, same, start}
 use Rattle.ranking.proofs.stack.Stack.settle.Goals as goal
-use Rattle.ranking.proofs.stack.Stack.settle.Goals.{then-is-behind, else-is-behind}
+use Rattle.ranking.proofs.stack.Stack.settle.Goals.{then-is_behind, else-is_behind}
 
 pub returns-then-self-eq0 : goal.returns-then-self-eq0
 returns-then-self-eq0 g c =
@@ -40,14 +40,14 @@ loop-i-preserved g c =
     let T : Stack → ℕ → Type 0 = λ q k. (q.depth ≡ self.depth) × (take (i + 1) q.pages ++ sift o p k (drop (i + 1) (stacked q)) ≡ u) in
     let l : i < now.depth = omega (arith, c.loop-i.invariant.0, c.loop-i-test.true) in
     let t = ne_eqb y p c.if-entry-code.false in
-    elim c.if-is-behind.branch [
-      | then-is-behind w ↦
-          (let a : o c.loop-i.carried y ≡ true = sym c.is-behind.ensures ∙ w.if-is-behind.true in
-          subst (λ (k : ℕ). T c.if-is-behind.self k) (sym w.carried-is) (subst (λ (q : Stack). T q y) (sym w.self-is)
+    elim c.if-is_behind.branch [
+      | then-is_behind w ↦
+          (let a : o c.loop-i.carried y ≡ true = sym c.is_behind.ensures ∙ w.if-is_behind.true in
+          subst (λ (k : ℕ). T c.if-is_behind.self k) (sym w.carried-is) (subst (λ (q : Stack). T q y) (sym w.self-is)
           (c.loop-i.invariant.0, onto o p now.pages now.whole now.depth now.within c.loop-i.carried i u c.loop-i.invariant.1 l t a)))
-      | else-is-behind w ↦
-          (let a : o c.loop-i.carried y ≡ false = sym c.is-behind.ensures ∙ w.if-is-behind.false in
-          subst (λ (k : ℕ). T c.if-is-behind.self k) (sym w.carried-is) (subst (λ (q : Stack). T q c.loop-i.carried) (sym w.self-is)
+      | else-is_behind w ↦
+          (let a : o c.loop-i.carried y ≡ false = sym c.is_behind.ensures ∙ w.if-is_behind.false in
+          subst (λ (k : ℕ). T c.if-is_behind.self k) (sym w.carried-is) (subst (λ (q : Stack). T q c.loop-i.carried) (sym w.self-is)
           (c.loop-i.invariant.0, stays o p now.pages now.whole now.depth now.within c.loop-i.carried i u c.loop-i.invariant.1 l t a)))
     ]
 

@@ -7,11 +7,11 @@ use Rattle.recording.proofs.reader.Reader.take.Goals as goal
 pub loop-k-init : goal.loop-k-init
 loop-k-init c = (number_none _ _, omega arith)
 
-pub overflow-mul-number : goal.overflow-mul-number
-overflow-mul-number c = omega (arith, fits_16 c.loop-k.k (c.loop-k.number * 2 + 0) (omega arith) (bit_more c.loop-k.k c.loop-k.number 0 c.loop-k.invariant.1 (omega arith)))
+pub overflow_mul-number : goal.overflow_mul-number
+overflow_mul-number c = omega (arith, fits_16 c.loop-k.k (c.loop-k.number * 2 + 0) (omega arith) (bit_more c.loop-k.k c.loop-k.number 0 c.loop-k.invariant.1 (omega arith)))
 
-pub overflow-add-number : goal.overflow-add-number
-overflow-add-number c =
+pub overflow_add-number : goal.overflow_add-number
+overflow_add-number c =
     let number = c.loop-k.number * 2 + bit_of 8 c.args.self.now.bytes.now (c.args.self.now.at + c.loop-k.k) in
     omega (arith, fits_16 c.loop-k.k number (omega arith) (bit_more c.loop-k.k c.loop-k.number (bit_of 8 c.args.self.now.bytes.now (c.args.self.now.at + c.loop-k.k)) c.loop-k.invariant.1 (omega arith)))
 

@@ -46,5 +46,5 @@ returns c =
     record {
       moves = stepped_first (dpmin_step f) itself N M row (omega (arith, c.if-row-eq0.false)) (e ∙ sym (dpmin_fault f x (drop 1 row) M out));
       frames = refl;
-      answer = c.count-new-pulls.ensures;
+      answer = c.count_new-pulls.ensures;
     }

@@ -45,5 +45,5 @@ returns c =
     record {
       moves = ap (λ (n : ℕ). fifo n p) c.pull.ensures.room ∙ stepped_first (fifo_step f) has p q row (omega (arith, c.if-row-eq0.false)) (e ∙ sym (fifo_miss f x (drop 1 row) q out));
       frames = c.pull.ensures.room;
-      answer = sym (ap (λ (r : List ℕ). pulled (has q) (has r)) e ∙ fifo_in_pulled f x q (omega (arith, c.type-inv.row 0)) out);
+      answer = sym (ap (λ (r : List ℕ). pulled (has q) (has r)) e ∙ fifo_in_pulled f x q (omega (arith, c.type_inv.row 0)) out);
     }

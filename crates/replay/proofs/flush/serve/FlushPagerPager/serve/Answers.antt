@@ -32,8 +32,8 @@ returns-then-contains c =
       answer = sym (none_pulled M);
     }
 
-pub invariant-of-self : goal.invariant-of-self
-invariant-of-self c =
+pub invariant_of-self : goal.invariant_of-self
+invariant_of-self c =
     let x = get_or c.args.row.now 0 0 in
     let e : pages c.insert.new.self ≡ with_page x nothing = c.insert.ensures ∙ ap (with_page x) c.new-new.ensures in
     let f = c.args.self.now.frames in
@@ -50,5 +50,5 @@ returns c =
     record {
       moves = stepped_first flush_step itself N M row (omega (arith, c.if-row-eq0.false)) (e ∙ sym (flush_fault x (drop 1 row) M out));
       frames = refl;
-      answer = sym (ap (λ (P : Pages). pulled M P) e ∙ one_pulled x M nothing (omega (arith, c.type-inv.row 0)) out (λ k q. absurd (grind arith)));
+      answer = sym (ap (λ (P : Pages). pulled M P) e ∙ one_pulled x M nothing (omega (arith, c.type_inv.row 0)) out (λ k q. absurd (grind arith)));
     }
