@@ -56,7 +56,7 @@ impl Trial {
     /// The smallest frame count at which the ranking's own run has at most as many faults as the ceiling says. The ranking is
     /// used up.
     pub fn edge_of<R: Ranking + Drop>(&self, ranking: R, ceiling: u32) -> Result<u32, Refusal>
-        ensures { result ≡ ranking_edge (R.Ranking.order ranking) (string self.now) ceiling }
+        ensures { result ≡ ranking_edge (R.order ranking) (string self.now) ceiling }
     {
         match ranking::edge::edge_of(ranking, self.codes(), ceiling) {
             Some(frames) => Ok(frames),

@@ -22,8 +22,8 @@ use ranking::next_reference::NextReference;
 /// the pages that it holds at the end.
 fn word_count<P: Pager>(pager: &mut P, string: &[u8]) -> usize
     requires short { length string.now ≤ 4096 }
-    requires empty { size (P.Pager.holding pager.old []) ≡ 0 }
-    ensures { result ≡ length (model_plan (P.Pager.holding pager.old) string.now) }
+    requires empty { size (P.holding pager.old []) ≡ 0 }
+    ensures { result ≡ length (model_plan (P.holding pager.old) string.now) }
 {
     let (_, pulls) = run(pager, string);
     let held = pager.held_count();
@@ -38,10 +38,10 @@ fn write_plan<P: Pager + Drop>(
     out: &mut [u32],
 ) -> Result<usize, Refusal>
     requires short { length string.now ≤ 4096 }
-    requires empty { size (P.Pager.holding first []) ≡ 0 }
-    requires twins { P.Pager.holding second ≡ P.Pager.holding first }
-    ensures answer { result ≡ write_answer (length (model_plan (P.Pager.holding first) string.now)) out.old }
-    ensures words { out.new ≡ written (model_plan (P.Pager.holding first) string.now) out.old }
+    requires empty { size (P.holding first []) ≡ 0 }
+    requires twins { P.holding second ≡ P.holding first }
+    ensures answer { result ≡ write_answer (length (model_plan (P.holding first) string.now)) out.old }
+    ensures words { out.new ≡ written (model_plan (P.holding first) string.now) out.old }
 {
     if out.len() < word_count(&mut first, string) {
         return Err(Refusal::OutputTooShort);

@@ -26,13 +26,13 @@ impl Trial {
         list: &mut NameList<N>,
         bytes: &[u8],
     ) -> Result<Counts, LoadFault>
-        ensures answer { result ≡ decoded N.Name.kind N.Name.width (length list.old.memory.now) bytes.now }
-        ensures string { string self.new ≡ after_call (string self.old) (load N.Name.kind N.Name.width (length list.old.memory.now) bytes.now) }
+        ensures answer { result ≡ decoded N.kind N.width (length list.old.memory.now) bytes.now }
+        ensures string { string self.new ≡ after_call (string self.old) (load N.kind N.width (length list.old.memory.now) bytes.now) }
         ensures counts { IfOk result (λ a. (a.references ≡ length (string self.new)) × (a.names ≡ page_count (string self.new))) }
-        ensures count { list.new.count ≡ (if is_ok result then length (names_left N.Name.kind N.Name.width (length list.old.memory.now) bytes.now) else 0) }
-        ensures memory { list.new.memory.now ≡ with_records N.Name.named (names_left N.Name.kind N.Name.width (length list.old.memory.now) bytes.now) list.old.memory.now }
+        ensures count { list.new.count ≡ (if is_ok result then length (names_left N.kind N.width (length list.old.memory.now) bytes.now) else 0) }
+        ensures memory { list.new.memory.now ≡ with_records N.named (names_left N.kind N.width (length list.old.memory.now) bytes.now) list.old.memory.now }
         ensures lender { list.new.memory.ghost_name ≡ list.old.memory.ghost_name }
-        ensures stores { OnOk result ((recording N.Name.kind N.Name.width (named_by (listed N.Name.bits list.new.memory.now list.new.count) (string self.new)) ≡ bytes.now) × (all_named (length (listed N.Name.bits list.new.memory.now list.new.count)) (string self.new) ≡ true)) }
+        ensures stores { OnOk result ((recording N.kind N.width (named_by (listed N.bits list.new.memory.now list.new.count) (string self.new)) ≡ bytes.now) × (all_named (length (listed N.bits list.new.memory.now list.new.count)) (string self.new) ≡ true)) }
     {
         self.len = 0;
         let counts = decode(bytes, list, &mut self.codes)?;
@@ -47,9 +47,9 @@ impl Trial {
         list: &NameList<N>,
         out: &mut [u8],
     ) -> Result<usize, Refusal>
-        ensures answer { result ≡ encoded N.Name.width (listed N.Name.bits list.now.memory.now list.now.count) (string self.now) (length out.old) }
-        ensures out { out.new ≡ written result (recording N.Name.kind N.Name.width (named_by (listed N.Name.bits list.now.memory.now list.now.count) (string self.now))) out.old }
-        ensures loads { IfOk result (λ n. LoadsAs N.Name.kind N.Name.width (named_by (listed N.Name.bits list.now.memory.now list.now.count) (string self.now)) (take n out.new)) }
+        ensures answer { result ≡ encoded N.width (listed N.bits list.now.memory.now list.now.count) (string self.now) (length out.old) }
+        ensures out { out.new ≡ written result (recording N.kind N.width (named_by (listed N.bits list.now.memory.now list.now.count) (string self.now))) out.old }
+        ensures loads { IfOk result (λ n. LoadsAs N.kind N.width (named_by (listed N.bits list.now.memory.now list.now.count) (string self.now)) (take n out.new)) }
     {
         encode(list, self.codes(), out)
     }

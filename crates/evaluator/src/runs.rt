@@ -11,9 +11,9 @@ use ranking::Ranking;
 impl Trial {
     /// Serves the string to a pager that holds nothing. Returns the fault instants and the pulls that it makes.
     pub fn run<P: Pager>(&self, pager: &mut P) -> Result<(u32, u32), Refusal>
-        ensures answer { result ≡ run_answer (P.Pager.holding pager.old) (string self.now) }
-        ensures pager { P.Pager.holding pager.new ≡ run_leaves (P.Pager.holding pager.old) (string self.now) }
-        ensures frames { P.Pager.room pager.new ≡ P.Pager.room pager.old }
+        ensures answer { result ≡ run_answer (P.holding pager.old) (string self.now) }
+        ensures pager { P.holding pager.new ≡ run_leaves (P.holding pager.old) (string self.now) }
+        ensures frames { P.room pager.new ≡ P.room pager.old }
     {
         if pager.held_count() != 0 {
             return Err(Refusal::PagerHoldsPages);
@@ -25,8 +25,8 @@ impl Trial {
     /// many numbers it wrote, 64.
     pub fn pass<R: Ranking>(&self, ranking: &mut R, out: &mut [u32]) -> Result<usize, Refusal>
         ensures answer { result ≡ write_answer 64 out.old }
-        ensures row { out.new ≡ pass_writes (R.Ranking.order ranking.old) (string self.now) out.old }
-        ensures ranking { R.Ranking.order ranking.new ≡ pass_leaves (R.Ranking.order ranking.old) (string self.now) out.old }
+        ensures row { out.new ≡ pass_writes (R.order ranking.old) (string self.now) out.old }
+        ensures ranking { R.order ranking.new ≡ pass_leaves (R.order ranking.old) (string self.now) out.old }
     {
         if out.len() < 64 {
             return Err(Refusal::OutputTooShort);

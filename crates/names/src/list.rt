@@ -69,10 +69,10 @@ impl<'m, N: Name + Copy> NameList<'m, N> {
     /// The code of a name, which is its place in the list, counted from 0, and whether it was added just now: a new name is
     /// added at the end.
     pub fn look_up(&mut self, n: N) -> Result<Lookup, Refusal>
-        ensures means { LookUp (limit_of (length self.old.memory.now)) (listed N.Name.bits self.old.memory.now self.old.count) (N.Name.bits n) (listed N.Name.bits self.new.memory.now self.new.count) result }
-        ensures answer { result ≡ looked_up N.Name.bits self.old.memory.now self.old.count n }
-        ensures count { self.new.count ≡ looked_count N.Name.bits self.old.memory.now self.old.count n }
-        ensures memory { self.new.memory.now ≡ looked_memory N.Name.bits self.old.memory.now self.old.count n }
+        ensures means { LookUp (limit_of (length self.old.memory.now)) (listed N.bits self.old.memory.now self.old.count) (N.bits n) (listed N.bits self.new.memory.now self.new.count) result }
+        ensures answer { result ≡ looked_up N.bits self.old.memory.now self.old.count n }
+        ensures count { self.new.count ≡ looked_count N.bits self.old.memory.now self.old.count n }
+        ensures memory { self.new.memory.now ≡ looked_memory N.bits self.old.memory.now self.old.count n }
         ensures lender { self.new.memory.ghost_name ≡ self.old.memory.ghost_name }
     {
         let mut count = self.count;
@@ -84,7 +84,7 @@ impl<'m, N: Name + Copy> NameList<'m, N> {
 
 // The place of the first name that is equal to the given one, or the length.
 fn place_of<N: Name>(names: &[N], sought: &N) -> usize
-    ensures { result ≡ place_in (map N.Name.bits names.now) (N.Name.bits sought.now) }
+    ensures { result ≡ place_in (map N.bits names.now) (N.bits sought.now) }
 {
     for i in 0..names.len() {
         if names[i].same(sought) {
@@ -96,9 +96,9 @@ fn place_of<N: Name>(names: &[N], sought: &N) -> usize
 
 // Finds n among the first names of the memory, or writes it after them: its place, and whether it was written.
 fn look_in<N: Name + Copy>(memory: &mut [N], count: &mut usize, n: N) -> Result<Lookup, Refusal>
-    ensures answer { result ≡ looked_up N.Name.bits memory.old count.old n }
-    ensures count { count.new ≡ looked_count N.Name.bits memory.old count.old n }
-    ensures memory { memory.new ≡ looked_memory N.Name.bits memory.old count.old n }
+    ensures answer { result ≡ looked_up N.bits memory.old count.old n }
+    ensures count { count.new ≡ looked_count N.bits memory.old count.old n }
+    ensures memory { memory.new ≡ looked_memory N.bits memory.old count.old n }
 {
     let held = (*count).min(256).min(memory.len());
     *count = held;

@@ -24,7 +24,7 @@ fn word(place: u32, kind: u32, code: u32) -> u32
 
 /// The pages that the pager holds.
 fn snapshot<P: Pager>(pager: &P) -> PageSet
-    ensures { pages result ≡ filled nothing codes (P.Pager.holding pager.now []) }
+    ensures { pages result ≡ filled nothing codes (P.holding pager.now []) }
 {
     let mut held = PageSet::new();
     for code in 0..256u32 {
@@ -74,11 +74,11 @@ fn write_moves(place: u32, before: &PageSet, after: &PageSet, out: &mut [u32], f
 /// many words there are.
 pub fn plan<P: Pager>(pager: &mut P, string: &[u8], out: &mut [u32]) -> usize
     requires short { length string.now ≤ 4096 }
-    requires fits { length (plan_words (held_on (P.Pager.holding pager.old) string.now) (length string.now)) ≤ length out.old }
-    ensures count { result ≡ length (plan_words (held_on (P.Pager.holding pager.old) string.now) (length string.now)) }
-    ensures wrote { out.new ≡ plan_words (held_on (P.Pager.holding pager.old) string.now) (length string.now) ++ drop result out.old }
-    ensures moves { P.Pager.holding pager.new ≡ after (P.Pager.holding pager.old) string.now (length string.now) }
-    ensures frames { P.Pager.room pager.new ≡ P.Pager.room pager.old }
+    requires fits { length (plan_words (held_on (P.holding pager.old) string.now) (length string.now)) ≤ length out.old }
+    ensures count { result ≡ length (plan_words (held_on (P.holding pager.old) string.now) (length string.now)) }
+    ensures wrote { out.new ≡ plan_words (held_on (P.holding pager.old) string.now) (length string.now) ++ drop result out.old }
+    ensures moves { P.holding pager.new ≡ after (P.holding pager.old) string.now (length string.now) }
+    ensures frames { P.room pager.new ≡ P.room pager.old }
 {
     let mut count = 0;
     let mut before = snapshot(pager);

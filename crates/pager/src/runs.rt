@@ -8,9 +8,9 @@ use crate::Pager;
 /// pulls that the pager makes.
 pub fn run<P: Pager>(pager: &mut P, string: &[u8]) -> (u32, u32)
     requires { length string.now ≤ 4096 }
-    ensures figures { result ≡ (instants_on (P.Pager.holding pager.old) string.now, pulls_on (P.Pager.holding pager.old) string.now) }
-    ensures moves { P.Pager.holding pager.new ≡ after (P.Pager.holding pager.old) string.now (length string.now) }
-    ensures frames { P.Pager.room pager.new ≡ P.Pager.room pager.old }
+    ensures figures { result ≡ (instants_on (P.holding pager.old) string.now, pulls_on (P.holding pager.old) string.now) }
+    ensures moves { P.holding pager.new ≡ after (P.holding pager.old) string.now (length string.now) }
+    ensures frames { P.room pager.new ≡ P.room pager.old }
 {
     let mut faults = 0;
     let mut pulls = 0;

@@ -20,7 +20,7 @@ pub fn edge_in(row: &[u32; 64], ceiling: u32) -> Option<u32>
 /// The smallest frame count at which the ranking's own run has at most as many faults as the ceiling says.
 pub fn edge_of<R: Ranking + Drop>(mut ranking: R, string: &[u8], ceiling: u32) -> Option<u32>
     requires { length string.now ≤ 4096 }
-    ensures { result ≡ edge (faults_at (order ranking) string.now) ceiling }
+    ensures { result ≡ edge (faults_at (R.order ranking) string.now) ceiling }
 {
     let row = pass(&mut ranking, string);
     edge_in(&row, ceiling)

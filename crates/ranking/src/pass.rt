@@ -26,7 +26,7 @@ fn next_places(string: &[u8]) -> [u16; 4096]
 
 /// Whether a has to go before b does.
 pub fn is_behind<R: Ranking>(ranking: &R, a: u8, b: u8) -> bool
-    ensures { result ≡ order ranking.now [] b a }
+    ensures { result ≡ R.order ranking.now [] b a }
 {
     ranking.ahead(b, a)
 }
@@ -34,8 +34,8 @@ pub fn is_behind<R: Ranking>(ranking: &R, a: u8, b: u8) -> bool
 /// The faults of the ranking's own run at the frame counts 1 to 64. The ranking is told of the whole string.
 pub fn pass<R: Ranking>(ranking: &mut R, string: &[u8]) -> [u32; 64]
     requires { length string.now ≤ 4096 }
-    ensures faults { result ≡ pass_row (order ranking.old) string.now }
-    ensures told { order ranking.new ≡ told_all (order ranking.old) (tellings 0 string.now) }
+    ensures faults { result ≡ pass_row (R.order ranking.old) string.now }
+    ensures told { R.order ranking.new ≡ told_all (R.order ranking.old) (tellings 0 string.now) }
 {
     let after = next_places(string);
     let mut row = [0; 64];

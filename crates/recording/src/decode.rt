@@ -27,12 +27,12 @@ fn next_name<N: Name + Copy>(
     list: &mut NameList<N>,
     place: usize,
 ) -> Result<Lookup, LoadFault>
-    requires { reader.old.at + N.Name.width ≤ length reader.old.bytes.now * 8 }
-    ensures answer { result ≡ at_place place (looked_up N.Name.bits list.old.memory.now list.old.count (N.Name.named (number_at (bit_of 8 reader.old.bytes.now) reader.old.at N.Name.width))) }
-    ensures at { reader.new.at ≡ reader.old.at + N.Name.width }
+    requires { reader.old.at + N.width ≤ length reader.old.bytes.now * 8 }
+    ensures answer { result ≡ at_place place (looked_up N.bits list.old.memory.now list.old.count (N.named (number_at (bit_of 8 reader.old.bytes.now) reader.old.at N.width))) }
+    ensures at { reader.new.at ≡ reader.old.at + N.width }
     ensures bytes { reader.new.bytes.now ≡ reader.old.bytes.now }
-    ensures count { list.new.count ≡ looked_count N.Name.bits list.old.memory.now list.old.count (N.Name.named (number_at (bit_of 8 reader.old.bytes.now) reader.old.at N.Name.width)) }
-    ensures memory { list.new.memory.now ≡ looked_memory N.Name.bits list.old.memory.now list.old.count (N.Name.named (number_at (bit_of 8 reader.old.bytes.now) reader.old.at N.Name.width)) }
+    ensures count { list.new.count ≡ looked_count N.bits list.old.memory.now list.old.count (N.named (number_at (bit_of 8 reader.old.bytes.now) reader.old.at N.width)) }
+    ensures memory { list.new.memory.now ≡ looked_memory N.bits list.old.memory.now list.old.count (N.named (number_at (bit_of 8 reader.old.bytes.now) reader.old.at N.width)) }
     ensures lender { list.new.memory.ghost_name ≡ list.old.memory.ghost_name }
 {
     let number = reader.take(N::bit_width())?;
@@ -54,14 +54,14 @@ fn read_names<N: Name + Copy>(
     codes: &mut [u8; 4096],
 ) -> Result<Counts, LoadFault>
     requires most { count ≤ 4096 }
-    requires whole { length bytes.now ≡ bytes_for N.Name.width count }
+    requires whole { length bytes.now ≡ bytes_for N.width count }
     requires empty { list.old.count ≡ 0 }
-    ensures answer { result ≡ names_answer (limit_of (length list.old.memory.now)) (names_in N.Name.width bytes.now count) }
-    ensures codes { IfOk result (λ a. codes_of (limit_of (length list.old.memory.now)) (names_in N.Name.width bytes.now count) ≡ Ok (take a.references codes.new)) }
+    ensures answer { result ≡ names_answer (limit_of (length list.old.memory.now)) (names_in N.width bytes.now count) }
+    ensures codes { IfOk result (λ a. codes_of (limit_of (length list.old.memory.now)) (names_in N.width bytes.now count) ≡ Ok (take a.references codes.new)) }
     ensures named { IfOk result (λ a. all_named list.new.count (take a.references codes.new) ≡ true) }
-    ensures written { codes.new ≡ with_codes (codes_before (limit_of (length list.old.memory.now)) (names_in N.Name.width bytes.now count)) codes.old }
-    ensures count { list.new.count ≡ length (names_of (limit_of (length list.old.memory.now)) (names_in N.Name.width bytes.now count)) }
-    ensures memory { list.new.memory.now ≡ with_records N.Name.named (names_of (limit_of (length list.old.memory.now)) (names_in N.Name.width bytes.now count)) list.old.memory.now }
+    ensures written { codes.new ≡ with_codes (codes_before (limit_of (length list.old.memory.now)) (names_in N.width bytes.now count)) codes.old }
+    ensures count { list.new.count ≡ length (names_of (limit_of (length list.old.memory.now)) (names_in N.width bytes.now count)) }
+    ensures memory { list.new.memory.now ≡ with_records N.named (names_of (limit_of (length list.old.memory.now)) (names_in N.width bytes.now count)) list.old.memory.now }
     ensures lender { list.new.memory.ghost_name ≡ list.old.memory.ghost_name }
 {
     let mut reader = Reader { bytes, at: 24 };
@@ -87,12 +87,12 @@ pub fn decode<N: Name + Copy>(
     list: &mut NameList<N>,
     codes: &mut [u8; 4096],
 ) -> Result<Counts, LoadFault>
-    ensures answer { result ≡ decoded N.Name.kind N.Name.width (length list.old.memory.now) bytes.now }
-    ensures codes { IfOk result (λ a. codes_of (limit_of (length list.old.memory.now)) (names_recorded N.Name.kind N.Name.width bytes.now) ≡ Ok (take a.references codes.new)) }
+    ensures answer { result ≡ decoded N.kind N.width (length list.old.memory.now) bytes.now }
+    ensures codes { IfOk result (λ a. codes_of (limit_of (length list.old.memory.now)) (names_recorded N.kind N.width bytes.now) ≡ Ok (take a.references codes.new)) }
     ensures named { IfOk result (λ a. all_named list.new.count (take a.references codes.new) ≡ true) }
-    ensures written { codes.new ≡ with_codes (codes_left N.Name.kind N.Name.width (length list.old.memory.now) bytes.now) codes.old }
-    ensures count { list.new.count ≡ (if is_ok result then length (names_left N.Name.kind N.Name.width (length list.old.memory.now) bytes.now) else 0) }
-    ensures memory { list.new.memory.now ≡ with_records N.Name.named (names_left N.Name.kind N.Name.width (length list.old.memory.now) bytes.now) list.old.memory.now }
+    ensures written { codes.new ≡ with_codes (codes_left N.kind N.width (length list.old.memory.now) bytes.now) codes.old }
+    ensures count { list.new.count ≡ (if is_ok result then length (names_left N.kind N.width (length list.old.memory.now) bytes.now) else 0) }
+    ensures memory { list.new.memory.now ≡ with_records N.named (names_left N.kind N.width (length list.old.memory.now) bytes.now) list.old.memory.now }
     ensures lender { list.new.memory.ghost_name ≡ list.old.memory.ghost_name }
 {
     list.clear();

@@ -26,7 +26,7 @@ fn every_named(codes: &[u8], count: usize) -> bool
 fn bit_at<N: Name + Copy>(names: &[N], codes: &[u8], place: usize) -> u8
     requires most { length codes.now ≤ 4096 }
     requires named { all_named (length names.now) codes.now ≡ true }
-    ensures { result ≡ recording_bit N.Name.kind N.Name.width (named_by (map N.Name.bits names.now) codes.now) place }
+    ensures { result ≡ recording_bit N.kind N.width (named_by (map N.bits names.now) codes.now) place }
 {
     if place < 24 {
         let front = 1048576 + N::kind_number() as u32 * 262144 + codes.len() as u32;
@@ -46,7 +46,7 @@ fn byte_at<N: Name + Copy>(names: &[N], codes: &[u8], place: usize) -> u8
     requires place { place ≤ 8195 }
     requires most { length codes.now ≤ 4096 }
     requires named { all_named (length names.now) codes.now ≡ true }
-    ensures { result ≡ number_at (recording_bit N.Name.kind N.Name.width (named_by (map N.Name.bits names.now) codes.now)) (place * 8) 8 }
+    ensures { result ≡ number_at (recording_bit N.kind N.width (named_by (map N.bits names.now) codes.now)) (place * 8) 8 }
 {
     let mut byte: u8 = 0;
     for k in 0..8 {
@@ -61,7 +61,7 @@ fn write_bytes<N: Name + Copy>(names: &[N], codes: &[u8], out: &mut [u8], needed
     requires room { needed ≤ length out.old }
     requires most { length codes.now ≤ 4096 }
     requires named { all_named (length names.now) codes.now ≡ true }
-    ensures { out.new ≡ numbers_at (recording_bit N.Name.kind N.Name.width (named_by (map N.Name.bits names.now) codes.now)) 8 0 needed ++ drop needed out.old }
+    ensures { out.new ≡ numbers_at (recording_bit N.kind N.width (named_by (map N.bits names.now) codes.now)) 8 0 needed ++ drop needed out.old }
 {
     for i in 0..needed {
         out[i] = byte_at(names, codes, i);
@@ -75,8 +75,8 @@ pub fn encode<N: Name + Copy>(
     out: &mut [u8],
 ) -> Result<usize, Refusal>
     requires { length codes.now ≤ 4096 }
-    ensures answer { result ≡ encoded N.Name.width (listed N.Name.bits list.now.memory.now list.now.count) codes.now (length out.old) }
-    ensures out { out.new ≡ written result (recording N.Name.kind N.Name.width (named_by (listed N.Name.bits list.now.memory.now list.now.count) codes.now)) out.old }
+    ensures answer { result ≡ encoded N.width (listed N.bits list.now.memory.now list.now.count) codes.now (length out.old) }
+    ensures out { out.new ≡ written result (recording N.kind N.width (named_by (listed N.bits list.now.memory.now list.now.count) codes.now)) out.old }
 {
     let names = list.names();
     if !every_named(codes, names.len()) {

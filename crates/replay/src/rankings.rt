@@ -27,7 +27,7 @@ pub struct Turned<R> {
 }
 
 impl<R: Ranking> Ranking for Turned<R> {
-    ghost order = { λ s ts a b. R.Ranking.order s.inner ts b a };
+    ghost order = { λ s ts a b. R.order s.inner ts b a };
 
     ghost orders = { Prim.search rules };
 

@@ -11,14 +11,14 @@ use ranking::pass::is_behind;
 
 /// Whether the page c takes the place of z, in a search for the held page behind all others.
 fn takes<R: Ranking>(ranking: &R, held: &PageSet, z: u8, c: u8) -> bool
-    ensures { result ≡ (pages held.now c && (not (pages held.now z) || R.Ranking.order ranking.now [] z c)) }
+    ensures { result ≡ (pages held.now c && (not (pages held.now z) || R.order ranking.now [] z c)) }
 {
     held.contains(c) && (!held.contains(z) || is_behind(ranking, c, z))
 }
 
 /// The held page behind all others.
 fn hindmost<R: Ranking>(ranking: &R, held: &PageSet) -> u8
-    ensures { result ≡ last (R.Ranking.order ranking.now []) codes (pages held.now) }
+    ensures { result ≡ last (R.order ranking.now []) codes (pages held.now) }
 {
     let mut z = 0;
     for c in 0..256u16 {
@@ -33,7 +33,7 @@ fn hindmost<R: Ranking>(ranking: &R, held: &PageSet) -> u8
 pub(super) fn admit<R: Ranking>(ranking: &R, frames: u32, held: &mut PageSet, code: u8) -> u32
     requires some { 1 ≤ frames }
     requires within { size (pages held.old) ≤ frames }
-    ensures set { pages held.new ≡ admitted frames (last (R.Ranking.order ranking.now []) codes (pages held.old)) code (pages held.old) }
+    ensures set { pages held.new ≡ admitted frames (last (R.order ranking.now []) codes (pages held.old)) code (pages held.old) }
     ensures within { size (pages held.new) ≤ frames }
     ensures answer { result ≡ pulled (pages held.old) (pages held.new) }
 {

@@ -17,7 +17,7 @@ use ranking::Ranking;
 impl<R: Ranking> RankingPager<R> {
     /// The pager of the ranking as it is, which holds nothing.
     pub fn new(ranking: R, frames: FrameCount) -> RankingPager<R>
-        ensures holding { ranked_model (R.Ranking.order result.ranking) (frames_of result.frames) result.serves (pages result.held) ≡ own (R.Ranking.order ranking) (frames_of frames) }
+        ensures holding { ranked_model (R.order result.ranking) (frames_of result.frames) result.serves (pages result.held) ≡ own (R.order ranking) (frames_of frames) }
         ensures room { frames_of result.frames ≡ frames_of frames }
     {
         RankingPager {
@@ -30,12 +30,12 @@ impl<R: Ranking> RankingPager<R> {
 }
 
 impl<R: Ranking> Pager for RankingPager<R> {
-    ghost holding = { λ s. ranked_model (R.Ranking.order s.ranking) (frames_of s.frames) s.serves (pages s.held) };
+    ghost holding = { λ s. ranked_model (R.order s.ranking) (frames_of s.frames) s.serves (pages s.held) };
 
     ghost room = { λ s. frames_of s.frames };
 
     ghost keeps = { λ s.
-        run_keeps (frames_of s.frames) (record { ranking = R.Ranking.order s.ranking; count = s.serves; held = pages s.held })
+        run_keeps (frames_of s.frames) (record { ranking = R.order s.ranking; count = s.serves; held = pages s.held })
         s.frames.some s.frames.most s.within };
 
     fn frames(&self) -> u32 {

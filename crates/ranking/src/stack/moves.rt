@@ -33,7 +33,7 @@ impl Stack {
 
     /// Moves on by a reference to `code`; a page that leaves the 64 is forgotten.
     pub fn settle<R: Ranking>(&mut self, ranking: &R, code: u8)
-        ensures { stacked self.new ≡ take 64 (restacked (order ranking.now []) code (stacked self.old)) }
+        ensures { stacked self.new ≡ take 64 (restacked (R.order ranking.now []) code (stacked self.old)) }
     {
         if self.depth == 0 {
             self.pages[0] = code;

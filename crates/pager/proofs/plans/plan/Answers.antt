@@ -50,7 +50,7 @@ loop-place-preserved g c =
       | then-pulls-gt0 w ↦ (
         next,
         ap pages w.before-is ∙ w.snapshot-now.ensures,
-        w.count_is ∙ w.write_moves-count.ensures.count ∙
+        w.count-is ∙ w.write_moves-count.ensures.count ∙
             plan_count b m m' s t c.loop-place-test.true inv.0 c.serve-pulls.ensures.moves
             old c.loop-place.out c.loop-place.count c.requires.fits inv.2 inv.3
             (pages c.loop-place.before) (pages w.snapshot-now.result) inv.1 w.snapshot-now.ensures,
@@ -68,7 +68,7 @@ loop-place-preserved g c =
           old c.loop-place.out c.loop-place.count c.requires.fits inv.2 inv.3 none same in (
             next,
             ap pages w.before-is ∙ inv.1 ∙ clip_same (m []) (m' []) (nothing_moved (m []) (m' []) none same),
-            w.count_is ∙ inv.2 ∙ ap length (sym still),
+            w.count-is ∙ inv.2 ∙ ap length (sym still),
             w.out-is ∙ inv.3 ∙ ap (written old 0) (sym still),
             room,
           )

@@ -15,11 +15,11 @@ loop-code-preserved c =
     let more = total_more c.loop-code.code (λ k. bit (pages c.args.new.now k && not (pages c.args.held.now k))) in
     elim c.if-lacks.branch [
       | then-lacks w ↦ (
-        omega (arith, w.count_is, c.loop-code.invariant.0, more, ap bit (sym c.lacks.ensures ∙ w.if-lacks.true)),
-        omega (arith, w.count_is, c.loop-code.invariant.1),
+        omega (arith, w.count-is, c.loop-code.invariant.0, more, ap bit (sym c.lacks.ensures ∙ w.if-lacks.true)),
+        omega (arith, w.count-is, c.loop-code.invariant.1),
       )
       | else-lacks w ↦ (
-        omega (arith, w.count_is, c.loop-code.invariant.0, more, ap bit (sym c.lacks.ensures ∙ w.if-lacks.false)),
-        omega (arith, w.count_is, c.loop-code.invariant.1),
+        omega (arith, w.count-is, c.loop-code.invariant.0, more, ap bit (sym c.lacks.ensures ∙ w.if-lacks.false)),
+        omega (arith, w.count-is, c.loop-code.invariant.1),
       )
     ]

@@ -22,25 +22,15 @@ invariant_of-self c =
     let e = stored s.frames s.hand c.load.new.self x c.load.ensures in
     let q : queue n h (codes_of (set s.frames s.hand c.load.new.self)) ≡ fifo_in s.room x (queue_of s) =
     ap (queue n h) e ∙ queue_pull (codes_of s.frames) s.room s.used s.hand (omega (arith, s.wide, s.most)) s.within s.at s.filling x n h c.one_more-self.ensures c.onward-self.ensures in
-    let m = hand_on (codes_of s.frames) s.room s.used s.hand (omega (arith, s.wide, s.most)) s.within s.at s.filling x n h c.one_more-self.ensures c.onward-self.ensures in (
-      s.most,
-      (
-        m.0,
-        (
-          m.1,
-          (
-            m.2,
-            (
-              ap length e ∙ simp length-set s.wide,
-              (
-                ap once q ∙ once_in s.room x (queue_of s) s.apart c.requires,
-                (ap coded q ∙ coded_in s.room x (queue_of s) s.low (omega arith), tt),
-              ),
-            ),
-          ),
-        ),
-      ),
-    )
+    let m = hand_on (codes_of s.frames) s.room s.used s.hand (omega (arith, s.wide, s.most)) s.within s.at s.filling x n h c.one_more-self.ensures c.onward-self.ensures in record {
+      most = s.most;
+      within = m.0;
+      at = m.1;
+      filling = m.2;
+      wide = ap length e ∙ simp length-set s.wide;
+      apart = ap once q ∙ once_in s.room x (queue_of s) s.apart c.requires;
+      low = ap coded q ∙ coded_in s.room x (queue_of s) s.low (omega arith);
+    }
 
 pub returns : goal.returns
 returns c =
