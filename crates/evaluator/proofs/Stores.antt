@@ -1,12 +1,11 @@
 -- What was loaded is what will be stored, and what was stored is what will be loaded. Assumes nothing.
-use Rattle.std.proofs.Common.{◌≡◌, ℕ, zero, suc, ◌-◌, ◌^◌, ◌<◌, ◌≤◌, Bool, true, false, cond, ltb, ◌⊎◌, List, [], ◌∷◌, map, length, get_or, take, drop, IfOk, Ok, Err, Result, sym, refl, ap, ◌∙◌, subst, inl, inr, arith, pow_pos}
-use Rattle.std.proofs.lemmas.List.{length-append, length-drop, length-map, take_at}
-use Rattle.std.proofs.lemmas.Bool.{cases_Bool}
+use Rattle.std.proofs.Common.{◌≡◌, ℕ, zero, suc, ◌+◌, ◌-◌, ◌^◌, ◌<◌, ◌≤◌, Bool, true, false, cond, ltb, ◌⊎◌, List, [], ◌∷◌, ◌++◌, map, length, get_or, take, drop, IfOk, Ok, Err, Result, sym, refl, ap, ◌∙◌, subst, inl, inr, arith, pow_pos}
+use Rattle.std.proofs.lemmas.List.{length-append, length-drop, length-map, length_push, take_at, get_or_push, get_or_append_left}
+use Rattle.std.proofs.lemmas.Bool.{cases_Bool, cases_lt}
 use Rattle.paging.specs.declared.refusal.Refusal.{Refusal}
 use Rattle.paging.specs.declared.refusal.Refusal.TheVariants.{OutputTooShort, CodeWithoutName}
 use Rattle.recording.specs.declared.fault.LoadFault.{LoadFault}
-use Rattle.recording.specs.declared.decode.Counts.{Counts}
-use Rattle.recording.specs.Coding.{codes_of, decoded, learnt, names_answer, names_in, names_laid, names_of, names_recorded, with_records}
+use Rattle.recording.specs.Coding.{codes_of, coded_answer, decoded, learnt, names_in, names_laid, names_of, names_recorded, with_records}
 use Rattle.names.specs.Lists.{adds, limit_of, listed, with_name}
 use Rattle.recording.specs.Reading.{and_then, bytes_for, laid_out}
 use Rattle.recording.specs.Standing.{Below, Row}
@@ -46,15 +45,15 @@ module _ {X : Type 0} (bits : X → ℕ) (make : ℕ → X) (n : ℕ) (back : (m
       ∙ ap (map bits) (take_at (map make ns) (drop (length ns) memory) (length ns) m) ∙ bits_made ns b
 
 -- an accepted recording is laid out
-laid_of : (kind width places : ℕ) (bytes : List ℕ) (count : Counts) (r : Result ℕ LoadFault) → r ≡ laid_out kind width bytes →
-    and_then r (λ n. names_answer (limit_of places) (names_in width bytes n)) ≡ Ok count →
+laid_of : (kind width places : ℕ) (bytes : List ℕ) (count : ℕ) (r : Result ℕ LoadFault) → r ≡ laid_out kind width bytes →
+    and_then r (λ n. coded_answer (codes_of (limit_of places) (names_in width bytes n))) ≡ Ok count →
     (n : ℕ) × (laid_out kind width bytes ≡ Ok n) × (names_recorded kind width bytes ≡ names_in width bytes n)
 laid_of kind width places bytes count (Ok n) e h = (n, sym e, ap (names_laid width bytes) (sym e))
 laid_of kind width places bytes count (Err x) e h = never count x (sym h)
 
 -- the recording of the string and the list that a load leaves is the one that was loaded, and every code has a name
 pub load_stores : {X : Type 0} (bits : X → ℕ) (make : ℕ → X) (kind width : ℕ) → kind < 4 → 1 ≤ width → ((m : ℕ) → m < 2 ^ width → bits (make m) ≡ m) →
-    (memory memory' : List X) (k : ℕ) (count : Counts) (bytes cs : List ℕ) → Below 256 bytes →
+    (memory memory' : List X) (k count : ℕ) (bytes cs : List ℕ) → Below 256 bytes →
     decoded kind width (length memory) bytes ≡ Ok count →
     codes_of (limit_of (length memory)) (names_recorded kind width bytes) ≡ Ok cs →
     memory' ≡ with_records make (names_of (limit_of (length memory)) (names_recorded kind width bytes)) memory →

@@ -1,22 +1,19 @@
 -- The worked examples. Assumes nothing.
-use Rattle.std.proofs.Common.{◌≡◌, Ok, Err, refl}
+use Rattle.std.proofs.Common.{◌≡◌, ℕ, true, List, [], Ok, Err, refl}
 use Rattle.paging.specs.declared.policy.Policy.TheVariants.{Dpmin}
 use Rattle.paging.specs.declared.refusal.Refusal.TheVariants.{NoFrameCountWithin}
+use Rattle.paging.specs.Frames.{is_frames}
 use Rattle.paging.specs.Pages.{total}
 use Rattle.paging.specs.Schedules.{next}
 use Rattle.paging.specs.Rankings.{hindmost}
 use Rattle.pager.specs.Plans.{words, plan_words}
 use Rattle.ranking.specs.Edges.{edge_from}
 use Rattle.recording.specs.Bits.{number_at, numbers_at}
-use Rattle.recording.specs.Coding.{coded, counts, decoded, different}
+use Rattle.recording.specs.Coding.{coded}
 use Rattle.evaluator.specs.Answers.{figures_answer, edge_answer, plan_of}
 use Rattle.evaluator.specs.Histories.{load_string}
 use Rattle.evaluator.specs.WorkingSets.{working_answer}
 use Rattle.evaluator.specs.Examples.{recorded, S, Row, EmptyString, moves_of_s, WorkedExamples}
-
-loaded_is : decoded 0 12 256 recorded ≡ Ok (counts 12 5)
-unfolding number_at numbers_at coded different
-loaded_is = refl
 
 string_is : load_string 0 12 256 recorded ≡ S
 unfolding number_at numbers_at coded
@@ -72,7 +69,6 @@ window_is = refl
 pub worked_examples : WorkedExamples
 worked_examples =
     record {
-      loaded = loaded_is;
       string = string_is;
       one = one;
       two = two;

@@ -1,9 +1,9 @@
 //! Recordings: loading them into a trial, and storing them.
 ghost use Rattle.evaluator.specs.Histories.{after_call, load};
 ghost use Rattle.evaluator.specs.Stored.{LoadsAs};
-ghost use Rattle.evaluator.specs.Strings.{page_count, string};
-ghost use Rattle.recording.specs.Coding.{decoded, names_left, with_records};
-ghost use Rattle.names.specs.Lists.{listed};
+ghost use Rattle.evaluator.specs.Strings.{string};
+ghost use Rattle.recording.specs.Coding.{decoded, names_of, names_recorded, with_records};
+ghost use Rattle.names.specs.Lists.{limit_of, listed};
 ghost use Rattle.recording.specs.Writing.{all_named, encoded, named_by, recording, written};
 ghost use Rattle.std.specs.Prelude.{◌≡◌, true, length, take, is_ok, IfOk, if◌then◌else◌, OnOk};
 
@@ -11,13 +11,12 @@ use crate::Trial;
 use names::list::NameList;
 use names::name::Name;
 use paging::refusal::Refusal;
-use recording::decode::{Counts, decode};
+use recording::decode::decode;
 use recording::encode::encode;
 use recording::fault::LoadFault;
 
 impl Trial {
-    /// Empties the trial and the list, looks up each name of the recording, and puts its code. Returns the number of references,
-    /// and the number of different names among them, which is that of the string's different pages.
+    /// Empties the trial and the list, looks up each name of the recording, and puts its code. Returns the number of references.
     ///
     /// After a refusal trial and list are empty; the names added before it remain in the list's memory. What was loaded is what
     /// `store` then writes: the same bytes.
@@ -25,19 +24,18 @@ impl Trial {
         &mut self,
         list: &mut NameList<N>,
         bytes: &[u8],
-    ) -> Result<Counts, LoadFault>
+    ) -> Result<usize, LoadFault>
         ensures answer { result ≡ decoded N.kind N.width (length list.old.memory.now) bytes.now }
         ensures string { string self.new ≡ after_call (string self.old) (load N.kind N.width (length list.old.memory.now) bytes.now) }
-        ensures counts { IfOk result (λ a. (a.references ≡ length (string self.new)) × (a.names ≡ page_count (string self.new))) }
-        ensures count { list.new.count ≡ (if is_ok result then length (names_left N.kind N.width (length list.old.memory.now) bytes.now) else 0) }
-        ensures memory { list.new.memory.now ≡ with_records N.named (names_left N.kind N.width (length list.old.memory.now) bytes.now) list.old.memory.now }
+        ensures count { list.new.count ≡ (if is_ok result then length (names_of (limit_of (length list.old.memory.now)) (names_recorded N.kind N.width bytes.now)) else 0) }
+        ensures memory { list.new.memory.now ≡ with_records N.named (names_of (limit_of (length list.old.memory.now)) (names_recorded N.kind N.width bytes.now)) list.old.memory.now }
         ensures lender { list.new.memory.ghost_name ≡ list.old.memory.ghost_name }
         ensures stores { OnOk result ((recording N.kind N.width (named_by (listed N.bits list.new.memory.now list.new.count) (string self.new)) ≡ bytes.now) × (all_named (length (listed N.bits list.new.memory.now list.new.count)) (string self.new) ≡ true)) }
     {
         self.len = 0;
-        let counts = decode(bytes, list, &mut self.codes)?;
-        self.len = counts.references;
-        Ok(counts)
+        let count = decode(bytes, list, &mut self.codes)?;
+        self.len = count;
+        Ok(count)
     }
 
     /// Writes the recording of the string with the names of the list. Returns the number of bytes. They load as the same row of

@@ -1,21 +1,20 @@
 -- The text that a load is answered with. Assumes nothing.
-use Rattle.std.proofs.Common.{◌≡◌, ℕ, ◌≤◌, true, false, leb, ◌⊎◌, List, length, Ok, Err, Result, sym, ap, ◌∙◌, inl, inr, arith}
+use Rattle.std.proofs.Common.{◌≡◌, ℕ, ◌≤◌, Bool, true, false, cond, leb, ◌⊎◌, List, length, Ok, Err, Result, sym, refl, ap, ◌∙◌, inl, inr, arith}
 use Rattle.std.proofs.lemmas.Bool.{cases_Bool, cond-true, cond-false}
 use Rattle.paging.specs.declared.refusal.Refusal.{Refusal}
 use Rattle.paging.specs.declared.refusal.Refusal.TheVariants.{OutputTooShort}
-use Rattle.recording.specs.declared.decode.Counts.{Counts}
 use Rattle.recording.specs.declared.fault.LoadFault.{LoadFault}
-use Rattle.evaluator.specs.Answers.{write_answer}
+use Rattle.evaluator.specs.Answers.{write_answer, written}
 use Rattle.listing.specs.Listings.{figures_text, fault_text, answer_text, own_load, own_string, listing_text, count_written}
 
 -- the load was accepted, and left the string t
-pub accepted : (bytes : List ℕ) (r : Result Counts LoadFault) (a : Counts) (t : List ℕ) → r ≡ own_load bytes → r ≡ Ok a → t ≡ own_string bytes →
+pub accepted : (bytes : List ℕ) (r : Result ℕ LoadFault) (n : ℕ) (t : List ℕ) → r ≡ own_load bytes → r ≡ Ok n → t ≡ own_string bytes →
     figures_text t ≡ listing_text bytes
-accepted bytes r a t e o q = ap figures_text q ∙ sym (ap (λ (x : Result Counts LoadFault). answer_text x (own_string bytes)) (sym e ∙ o))
+accepted bytes r n t e o q = ap figures_text q ∙ sym (ap (λ (x : Result ℕ LoadFault). answer_text x (own_string bytes)) (sym e ∙ o))
 
 -- the load was refused
-pub refused : (bytes : List ℕ) (r : Result Counts LoadFault) (e : LoadFault) → r ≡ own_load bytes → r ≡ Err e → fault_text e ≡ listing_text bytes
-refused bytes r e a o = sym (ap (λ (x : Result Counts LoadFault). answer_text x (own_string bytes)) (sym a ∙ o))
+pub refused : (bytes : List ℕ) (r : Result ℕ LoadFault) (e : LoadFault) → r ≡ own_load bytes → r ≡ Err e → fault_text e ≡ listing_text bytes
+refused bytes r e a o = sym (ap (λ (x : Result ℕ LoadFault). answer_text x (own_string bytes)) (sym a ∙ o))
 
 -- an answer that counts the bytes, and one that refuses them
 pub counts : (text out : List ℕ) (r : Result ℕ Refusal) (n : ℕ) → r ≡ write_answer (length text) out → r ≡ Ok n → n ≡ count_written text out
@@ -36,6 +35,6 @@ counts_none text out r x e o = go (cases_Bool (leb (length text) (length out)))
 pub some_text : (bytes : List ℕ) → 1 ≤ length (listing_text bytes)
 some_text bytes = go (own_load bytes)
   where
-    go : (r : Result Counts LoadFault) → 1 ≤ length (answer_text r (own_string bytes))
-    go (Ok a) = omega arith
+    go : (r : Result ℕ LoadFault) → 1 ≤ length (answer_text r (own_string bytes))
+    go (Ok n) = omega arith
     go (Err e) = omega arith

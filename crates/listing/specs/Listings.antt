@@ -4,7 +4,6 @@ use Rattle.std.specs.List.{range_with_len}
 use Rattle.paging.specs.declared.policy.Policy.TheVariants.{Lru, Min, Dpmin}
 use Rattle.paging.specs.Policies.{instants, pulls_of}
 use Rattle.paging.specs.Refusals.{number}
-use Rattle.recording.specs.declared.decode.Counts.{Counts}
 use Rattle.recording.specs.declared.fault.Layer.{Layer}
 use Rattle.recording.specs.declared.fault.Layer.TheVariants.{Bytes, Names}
 use Rattle.recording.specs.declared.fault.LoadFault.{LoadFault}
@@ -54,15 +53,15 @@ abbrev pub of_tasks : List ℕ → Bool
 of_tasks bytes = number_at (bit_of 8 bytes) 4 2 == 1
 
 -- loading a recording into a list of its own kind with 256 places: the answer, and the string
-abbrev pub own_load : List ℕ → Result Counts LoadFault
+abbrev pub own_load : List ℕ → Result ℕ LoadFault
 own_load bytes = cond (of_tasks bytes) (decoded 1 16 256 bytes) (decoded 0 12 256 bytes)
 
 abbrev pub own_string : List ℕ → List ℕ
 own_string bytes = cond (of_tasks bytes) (load_string 1 16 256 bytes) (load_string 0 12 256 bytes)
 
 -- the figures of the string that was loaded, or the line of the refusal
-abbrev pub answer_text : Result Counts LoadFault → List ℕ → List ℕ
-answer_text (Ok a) s = figures_text s
+abbrev pub answer_text : Result ℕ LoadFault → List ℕ → List ℕ
+answer_text (Ok n) s = figures_text s
 answer_text (Err e) s = fault_text e
 
 -- the listing of a recording

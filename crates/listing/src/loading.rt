@@ -6,7 +6,6 @@ ghost use Rattle.std.specs.Prelude.{◌≡◌};
 use evaluator::Trial;
 use names::list::NameList;
 use names::name::{Page, TaskPage};
-use recording::decode::Counts;
 use recording::fault::LoadFault;
 
 /// Whether the kind that a recording gives is that of tasks with pages.
@@ -17,8 +16,8 @@ fn names_tasks(recording: &[u8]) -> bool
 }
 
 /// Loads a recording into the trial, with a list of the recording's own kind that has 256 places. Returns the number of
-/// references, and that of the different names among them.
-pub fn load_own(trial: &mut Trial, recording: &[u8]) -> Result<Counts, LoadFault>
+/// references.
+pub fn load_own(trial: &mut Trial, recording: &[u8]) -> Result<usize, LoadFault>
     ensures answer { result ≡ own_load recording.now }
     ensures string { string trial.new ≡ own_string recording.now }
 {

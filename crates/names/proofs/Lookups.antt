@@ -6,8 +6,7 @@ use Rattle.std.proofs.lemmas.Bool.{cases_Bool, cond-true, cond-false, eqb-true, 
 use Rattle.paging.specs.declared.refusal.Refusal.{Refusal}
 use Rattle.paging.specs.declared.refusal.Refusal.TheVariants.{NoPlaceForName}
 use Rattle.paging.specs.Pages.{bit, has}
-use Rattle.names.specs.declared.list.Lookup.{Lookup}
-use Rattle.names.specs.Lists.{place_in, limit_of, known, adds, with_name, lookup, look_answer, held, listed, looked_up, looked_count, looked_memory, LookUp}
+use Rattle.names.specs.Lists.{place_in, limit_of, known, adds, with_name, look_answer, held, listed, looked_up, looked_count, looked_memory, LookUp}
 use Rattle.names.proofs.Places.{place_most, length_listed}
 
 -- a known name stands at its place
@@ -78,28 +77,11 @@ module _ (limit : ℕ) (ns : List ℕ) (m : ℕ) where
   look_means : length ns ≤ limit → LookUp limit ns m (with_name limit ns m) (look_answer limit ns m)
   look_means most = go (known ns m || ltb (length ns) limit) refl
     where
-      go : (b : Bool) → (known ns m || ltb (length ns) limit) ≡ b → LookUp limit ns m (with_name limit ns m) (cond b (Ok (lookup (place_in ns m) (not (known ns m)))) (Err NoPlaceForName))
-      go true t = ((placed t).0, (placed t).1, ap not (known_has ns m), ap (λ (b : Bool). cond b (ns ++ m ∷ []) ns) (adds_new t), with_within most)
+      go : (b : Bool) → (known ns m || ltb (length ns) limit) ≡ b → LookUp limit ns m (with_name limit ns m) (cond b (Ok (place_in ns m)) (Err NoPlaceForName))
+      go true t = ((placed t).0, (placed t).1, ap (λ (b : Bool). cond b (ns ++ m ∷ []) ns) (adds_new t ∙ ap not (known_has ns m)), with_within most)
       go false t =
           let p = or_parts (known ns m) (ltb (length ns) limit) t in
           (refl, sym (known_has ns m) ∙ p.0, ltb-false _ _ p.1, cond-false _ _ _ (adds_none t))
-
-  look_adds : (a : Lookup) (h : ℕ) → look_answer limit ns m ≡ Ok a → cond (adds limit ns m) (h + 1) h ≡ h + bit a.added
-  look_adds a h e = go (cases_Bool (known ns m || ltb (length ns) limit))
-    where
-      each : (b : Bool) → cond b (h + 1) h ≡ h + bit b
-      each true = refl
-      each false = omega arith
-
-      go : ((known ns m || ltb (length ns) limit) ≡ true) ⊎ ((known ns m || ltb (length ns) limit) ≡ false) → cond (adds limit ns m) (h + 1) h ≡ h + bit a.added
-      go (inl t) =
-          let o : Ok (lookup (place_in ns m) (not (known ns m))) ≡ look_answer limit ns m = rw t in
-          let is : lookup (place_in ns m) (not (known ns m)) ≡ a = cc in
-          ap (λ (b : Bool). cond b (h + 1) h) (adds_new t) ∙ each (not (known ns m)) ∙ ap (λ (r : Lookup). h + bit r.added) is
-      go (inr t) =
-          let o : Err NoPlaceForName ≡ look_answer limit ns m = rw t in
-          let z : ◌≡◌ {A = ℕ} 0 1 = cc in
-          absurd (omega arith)
 
 module _ {X : Type 0} (f : X → ℕ) (xs : List X) (k : ℕ) (x : X) where
   -- a record that is written behind the others comes last
@@ -120,11 +102,7 @@ module _ {X : Type 0} (f : X → ℕ) (xs : List X) (k : ℕ) (x : X) where
           let same : held (length xs) (held (length xs) k) ≡ held (length xs) k = omega arith in
           ap (λ (n : ℕ). map f (take n xs)) same
 
-  -- an accepted look-up has the list count one more exactly if the name was added just now
-  pub looked_adds : (a : Lookup) → looked_up f xs k x ≡ Ok a → looked_count f xs k x ≡ held (length xs) k + bit a.added
-  looked_adds a e = look_adds (limit_of (length xs)) (listed f xs k) (f x) a (held (length xs) k) e
-
-  pub look_up_means : (r : Result Lookup Refusal) (k' : ℕ) (xs' : List X) → r ≡ looked_up f xs k x → k' ≡ looked_count f xs k x → xs' ≡ looked_memory f xs k x →
+  pub look_up_means : (r : Result ℕ Refusal) (k' : ℕ) (xs' : List X) → r ≡ looked_up f xs k x → k' ≡ looked_count f xs k x → xs' ≡ looked_memory f xs k x →
       LookUp (limit_of (length xs)) (listed f xs k) (f x) (listed f xs' k') r
   look_up_means r k' xs' er ek ex =
       rw (er, ek, ex, listed_looked) (look_means (limit_of (length xs)) (listed f xs k) (f x) (omega (arith, length_listed f xs k)))

@@ -3,7 +3,6 @@ use Rattle.std.specs.Prelude.{◌≡◌, ℕ, suc, ◌+◌, ◌<◌, ◌≤◌, 
 use Rattle.paging.specs.declared.refusal.Refusal.{Refusal}
 use Rattle.paging.specs.declared.refusal.Refusal.TheVariants.{NoPlaceForName}
 use Rattle.paging.specs.Pages.{has}
-use Rattle.names.specs.declared.list.Lookup.{Lookup}
 
 -- the place of the number m in a row, counted from 0, or the row's length
 abbrev pub place_in : List ℕ → ℕ → ℕ
@@ -26,13 +25,9 @@ adds limit ns m = not (known ns m) && nat_lt (length ns) limit
 abbrev pub with_name : ℕ → List ℕ → ℕ → List ℕ
 with_name limit ns m = cond (adds limit ns m) (ns ++ m ∷ []) ns
 
--- a code, and whether its name was added just now
-abbrev pub lookup : ℕ → Bool → Lookup
-lookup c b = record { code = c; added = b }
-
--- looking up answers the name's place and whether it was new, and refuses a new name that has no place
-abbrev pub look_answer : ℕ → List ℕ → ℕ → Result Lookup Refusal
-look_answer limit ns m = cond (known ns m || nat_lt (length ns) limit) (Ok (lookup (place_in ns m) (not (known ns m)))) (Err NoPlaceForName)
+-- looking up answers the name's place, and refuses a new name that has no place
+abbrev pub look_answer : ℕ → List ℕ → ℕ → Result ℕ Refusal
+look_answer limit ns m = cond (known ns m || nat_lt (length ns) limit) (Ok (place_in ns m)) (Err NoPlaceForName)
 
 -- how many names a list has whose memory has so many places: its count, which the limit bounds
 abbrev pub held : ℕ → ℕ → ℕ
@@ -46,7 +41,7 @@ abbrev pub listed : {X : Type 0} → (X → ℕ) → List X → ℕ → List ℕ
 listed f xs count = map f (in_list xs count)
 
 -- looking up the record x: the answer, the count afterwards and the memory afterwards
-abbrev pub looked_up : {X : Type 0} → (X → ℕ) → List X → ℕ → X → Result Lookup Refusal
+abbrev pub looked_up : {X : Type 0} → (X → ℕ) → List X → ℕ → X → Result ℕ Refusal
 looked_up f xs count x = look_answer (limit_of (length xs)) (listed f xs count) (f x)
 
 abbrev pub looked_count : {X : Type 0} → (X → ℕ) → List X → ℕ → X → ℕ
@@ -57,9 +52,10 @@ abbrev pub looked_memory : {X : Type 0} → (X → ℕ) → List X → ℕ → X
 looked_memory f xs count x =
     cond (adds (limit_of (length xs)) (listed f xs count) (f x)) (slice_set xs (held (length xs) count) x) xs
 
--- what looking up m means, where the names of the list were ns and then are ns': m stands at the code that is answered, and it was
--- added, within the limit, exactly if it was not in the list; it is refused where it was not and the list has as many names as the limit
-abbrev pub LookUp : ℕ → List ℕ → ℕ → List ℕ → Result Lookup Refusal → Type 0
-LookUp limit ns m ns' (Ok a) =
-    (a.code < length ns') × (slice_index ns' a.code ≡ m) × (a.added ≡ not (has ns m)) × (ns' ≡ cond a.added (ns ++ m ∷ []) ns) × (length ns' ≤ limit)
+-- what looking m up means, where the names of the list were ns and then are ns': m stands at the code that is answered, and it was
+-- added as the last one, within the limit, exactly if it was not in the list; it is refused where it was not and the list has as many
+-- names as the limit
+abbrev pub LookUp : ℕ → List ℕ → ℕ → List ℕ → Result ℕ Refusal → Type 0
+LookUp limit ns m ns' (Ok c) =
+    (c < length ns') × (slice_index ns' c ≡ m) × (ns' ≡ cond (not (has ns m)) (ns ++ m ∷ []) ns) × (length ns' ≤ limit)
 LookUp limit ns m ns' (Err e) = (e ≡ NoPlaceForName) × (has ns m ≡ false) × (limit ≤ length ns) × (ns' ≡ ns)

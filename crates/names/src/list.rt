@@ -5,15 +5,6 @@ ghost use Rattle.names.specs.Lists.{LookUp, held, in_list, limit_of, listed, loo
 use crate::name::Name;
 use paging::refusal::Refusal;
 
-/// What looking a name up answers.
-#[derive(Clone, Copy)]
-pub struct Lookup {
-    /// The name's code, which is its place in the list.
-    pub code: u8,
-    /// Whether the name was added just now.
-    pub added: bool,
-}
-
 /// A list of different names in provided memory. It holds as many as the memory has places, at most 256.
 #[derive(Drop)]
 pub struct NameList<'m, N: Name> {
@@ -66,9 +57,8 @@ impl<'m, N: Name + Copy> NameList<'m, N> {
         Some(names[code as usize])
     }
 
-    /// The code of a name, which is its place in the list, counted from 0, and whether it was added just now: a new name is
-    /// added at the end.
-    pub fn look_up(&mut self, n: N) -> Result<Lookup, Refusal>
+    /// The code of a name, which is its place in the list, counted from 0. A new name is added at the end.
+    pub fn look_up(&mut self, n: N) -> Result<u8, Refusal>
         ensures means { LookUp (limit_of (length self.old.memory.now)) (listed N.bits self.old.memory.now self.old.count) (N.bits n) (listed N.bits self.new.memory.now self.new.count) result }
         ensures answer { result ≡ looked_up N.bits self.old.memory.now self.old.count n }
         ensures count { self.new.count ≡ looked_count N.bits self.old.memory.now self.old.count n }
@@ -94,8 +84,8 @@ fn place_of<N: Name>(names: &[N], sought: &N) -> usize
     names.len()
 }
 
-// Finds n among the first names of the memory, or writes it after them: its place, and whether it was written.
-fn look_in<N: Name + Copy>(memory: &mut [N], count: &mut usize, n: N) -> Result<Lookup, Refusal>
+// Finds n among the first names of the memory, or writes it after them: its place.
+fn look_in<N: Name + Copy>(memory: &mut [N], count: &mut usize, n: N) -> Result<u8, Refusal>
     ensures answer { result ≡ looked_up N.bits memory.old count.old n }
     ensures count { count.new ≡ looked_count N.bits memory.old count.old n }
     ensures memory { memory.new ≡ looked_memory N.bits memory.old count.old n }
@@ -104,18 +94,12 @@ fn look_in<N: Name + Copy>(memory: &mut [N], count: &mut usize, n: N) -> Result<
     *count = held;
     let place = place_of(&memory[0..held], &n);
     if place < held {
-        return Ok(Lookup {
-            code: place as u8,
-            added: false,
-        });
+        return Ok(place as u8);
     }
     if held >= memory.len() || held >= 256 {
         return Err(Refusal::NoPlaceForName);
     }
     memory[held] = n;
     *count = held + 1;
-    Ok(Lookup {
-        code: held as u8,
-        added: true,
-    })
+    Ok(held as u8)
 }

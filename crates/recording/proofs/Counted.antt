@@ -7,7 +7,7 @@ use Rattle.paging.proofs.Queues.{has_append}
 use Rattle.paging.proofs.Sets.{total_same}
 use Rattle.paging.proofs.Sums.{total_below}
 use Rattle.names.specs.Lists.{place_in, known, with_name}
-use Rattle.recording.specs.Coding.{coded, learnt, codes_of, names_of, different, counts, coded_answer, names_answer}
+use Rattle.recording.specs.Coding.{coded, learnt, codes_of, names_of, different}
 use Rattle.recording.specs.Standing.{Counted}
 use Rattle.recording.specs.Writing.{all_named}
 use Rattle.names.proofs.Places.{place_most}
@@ -94,10 +94,6 @@ learnt_outside limit ns cs (m ∷ ms) ds e =
 -- a list that began empty has the different names of the row
 pub names_counted : (limit : ℕ) (ms cs : List ℕ) → codes_of limit ms ≡ Ok cs → length (names_of limit ms) ≡ different ms
 names_counted limit ms cs e = omega (arith, learnt_outside limit [] [] ms cs e, outside_none ms)
-
-pub counted_answer : (limit : ℕ) (ms cs : List ℕ) (n k : ℕ) → codes_of limit ms ≡ Ok cs → n ≡ length ms → k ≡ length (names_of limit ms) → Ok (counts n k) ≡ names_answer limit ms
-counted_answer limit ms cs n k e en ek =
-    ap (λ (j : ℕ). Ok (counts j k)) en ∙ ap (λ (j : ℕ). Ok (counts (length ms) j)) (ek ∙ names_counted limit ms cs e) ∙ ap (coded_answer ms) (sym e)
 
 -- a code that is not refused is listed or comes right behind
 module _ (limit : ℕ) (ns cs : List ℕ) (m : ℕ) (t : (known ns m || ltb (length ns) limit) ≡ true) (all : (c : ℕ) → c < length ns → has cs c ≡ true) where

@@ -4,16 +4,14 @@ use Rattle.std.proofs.lemmas.List.{length-map, length-set, length-take-le, appen
 use Rattle.std.proofs.lemmas.Bool.{cases_Bool, cond-true, cond-false, and_right, and_parts, or_parts, le-ltb, ltb-true, ltb-false}
 use Rattle.paging.specs.declared.refusal.Refusal.{Refusal}
 use Rattle.paging.specs.declared.refusal.Refusal.TheVariants.{NoPlaceForName}
-use Rattle.paging.specs.Pages.{bit}
 use Rattle.recording.specs.Bits.{bit_of, number_at, numbers_at}
-use Rattle.names.specs.Lists.{place_in, known, adds, with_name, limit_of, lookup, look_answer, held, listed, looked_up, looked_count, looked_memory}
-use Rattle.recording.specs.Coding.{coded, accepted, codes_before, with_codes, learnt, codes_of, names_of, names_in, coded_answer, names_answer, with_records, at_place, names_laid, names_recorded, decoded}
-use Rattle.names.specs.declared.list.Lookup.{Lookup}
+use Rattle.names.specs.Lists.{place_in, known, adds, with_name, limit_of, look_answer, held, listed, looked_up, looked_count, looked_memory}
+use Rattle.recording.specs.Coding.{coded, accepted, codes_before, with_codes, learnt, codes_of, names_of, names_in, coded_answer, with_records, at_place, names_laid, names_recorded, decoded}
 use Rattle.recording.specs.declared.fault.LoadFault.{LoadFault}
 use Rattle.recording.specs.Reading.{by_names, and_then, laid_out}
 use Rattle.recording.proofs.Bitwise.{number_below, bit_below, numbers_more, numbers_none}
 use Rattle.names.proofs.Places.{length_listed}
-use Rattle.names.proofs.Lookups.{listed_push, looked_adds}
+use Rattle.names.proofs.Lookups.{listed_push}
 
 -- where reading the names of a recording of so many stands after i of them
 pub record Progress {X : Type 0} (f : X → ℕ) (make : ℕ → X) (w : ℕ) (bytes : List ℕ) (count : ℕ) (start : List X) (old : List ℕ) (i at : ℕ) (mem : List X) (k : ℕ) (codes : List ℕ) : Type 0 where
@@ -87,23 +85,23 @@ memory_push {X} f make start mem k n size room memory =
     ∙ ap (λ (ys : List X). ys ++ drop (k + 1) start) (sym (map_push make (listed f mem k) n))
 
 -- a look-up answers a code only if the name is known or has room, and adds it only if it is new and has room
-pub looked_ok : (limit : ℕ) (ns : List ℕ) (m : ℕ) (c : Lookup) → look_answer limit ns m ≡ Ok c → ((known ns m || ltb (length ns) limit) ≡ true) × (c ≡ lookup (place_in ns m) (not (known ns m)))
+pub looked_ok : (limit : ℕ) (ns : List ℕ) (m c : ℕ) → look_answer limit ns m ≡ Ok c → ((known ns m || ltb (length ns) limit) ≡ true) × (c ≡ place_in ns m)
 looked_ok limit ns m c e = ⊎_elim
-    (λ t. let o : Ok (lookup (place_in ns m) (not (known ns m))) ≡ look_answer limit ns m = rw t in (t, cc))
+    (λ t. let o : Ok (place_in ns m) ≡ look_answer limit ns m = rw t in (t, cc))
     (λ t. let o : Err NoPlaceForName ≡ look_answer limit ns m = rw t in absurd (let z : ◌≡◌ {A = ℕ} 0 1 = cc in omega arith))
     (cases_Bool (known ns m || ltb (length ns) limit))
 
 pub looked_err : (limit : ℕ) (ns : List ℕ) (m : ℕ) (r : Refusal) → look_answer limit ns m ≡ Err r → ((known ns m || ltb (length ns) limit) ≡ false) × (r ≡ NoPlaceForName) × (limit ≤ length ns)
 looked_err limit ns m r e = ⊎_elim
-    (λ t. let o : Ok (lookup (place_in ns m) (not (known ns m))) ≡ look_answer limit ns m = rw t in absurd (let z : ◌≡◌ {A = ℕ} 0 1 = cc in omega arith))
+    (λ t. let o : Ok (place_in ns m) ≡ look_answer limit ns m = rw t in absurd (let z : ◌≡◌ {A = ℕ} 0 1 = cc in omega arith))
     (λ t. let o : Err NoPlaceForName ≡ look_answer limit ns m = rw t in (t, cc, ltb-false _ _ (or_parts (known ns m) (ltb (length ns) limit) t).1))
     (cases_Bool (known ns m || ltb (length ns) limit))
 
-pub placed_ok : (p : ℕ) (c : Lookup) (r : Result Lookup Refusal) → at_place p r ≡ Ok c → r ≡ Ok c
+pub placed_ok : (p c : ℕ) (r : Result ℕ Refusal) → at_place p r ≡ Ok c → r ≡ Ok c
 placed_ok p c (Ok x) e = cc
 placed_ok p c (Err x) e = absurd (let z : ◌≡◌ {A = ℕ} 0 1 = cc in omega arith)
 
-pub placed_err : (p : ℕ) (f : LoadFault) (r : Result Lookup Refusal) → at_place p r ≡ Err f → (x : Refusal) × (r ≡ Err x) × (f ≡ by_names x p)
+pub placed_err : (p : ℕ) (f : LoadFault) (r : Result ℕ Refusal) → at_place p r ≡ Err f → (x : Refusal) × (r ≡ Err x) × (f ≡ by_names x p)
 placed_err p f (Ok x) e = absurd (let z : ◌≡◌ {A = ℕ} 0 1 = cc in omega arith)
 placed_err p f (Err x) e = (x, refl, cc)
 
@@ -173,7 +171,7 @@ module _ {X : Type 0} (f : X → ℕ) (make : ℕ → X) (w : ℕ) (back : (n : 
       let ns = listed f mem k in
       ap (λ (s : ℕ). look_answer (limit_of s) ns (f (make n))) so.size ∙ ap (look_answer (limit_of (length start)) ns) number_back
 
-  pub progress_more : (at' : ℕ) (mem' : List X) (k' : ℕ) (codes' : List ℕ) (c : Lookup) → count ≤ 4096 → at' ≡ at + w → mem' ≡ looked_memory f mem k (make (number_at (bit_of 8 bytes) at w)) → k' ≡ looked_count f mem k (make (number_at (bit_of 8 bytes) at w)) → looked_up f mem k (make (number_at (bit_of 8 bytes) at w)) ≡ Ok c → codes' ≡ set codes i c.code → Progress f make w bytes count start old (i + 1) at' mem' k' codes'
+  pub progress_more : (at' : ℕ) (mem' : List X) (k' : ℕ) (codes' : List ℕ) (c : ℕ) → count ≤ 4096 → at' ≡ at + w → mem' ≡ looked_memory f mem k (make (number_at (bit_of 8 bytes) at w)) → k' ≡ looked_count f mem k (make (number_at (bit_of 8 bytes) at w)) → looked_up f mem k (make (number_at (bit_of 8 bytes) at w)) ≡ Ok c → codes' ≡ set codes i c → Progress f make w bytes count start old (i + 1) at' mem' k' codes'
   progress_more at' mem' k' codes' c most ea em ek el ec =
       let n = number_at (bit_of 8 bytes) at w in
       let ns = listed f mem k in
@@ -182,25 +180,25 @@ module _ {X : Type 0} (f : X → ℕ) (make : ℕ → X) (w : ℕ) (back : (n : 
       let q = looked_more mem' k' em ek in
       let o = looked_ok limit ns n c (sym answer_is ∙ el) in
       let wide : i < length codes = omega (arith, so.wide) in
-      let written : take (i + 1) codes' ≡ take i codes ++ place_in ns n ∷ [] = ap (take (i + 1)) ec ∙ take_more_set codes i c.code wide ∙ ap (λ (r : Lookup). take i codes ++ r.code ∷ []) o.1 in
+      let written : take (i + 1) codes' ≡ take i codes ++ place_in ns n ∷ [] = ap (take (i + 1)) ec ∙ take_more_set codes i c wide ∙ ap (λ (r : ℕ). take i codes ++ r ∷ []) o.1 in
       let row : numbers_at (bit_of 8 bytes) w at (count - i) ≡ n ∷ rest = numbers_more (bit_of 8 bytes) w at i count turn ∙ ap (λ (j : ℕ). n ∷ numbers_at (bit_of 8 bytes) w j (count - (i + 1))) (sym ea) in
       let lt : length (take i codes) ≡ i = length-take-le i codes (omega arith) in
-      let behind : codes' ≡ (take i codes ++ c.code ∷ []) ++ drop (i + 1) old = ec ∙ ap (λ (cs : List ℕ). set cs i c.code) so.untouched ∙ set_behind (take i codes) old i c.code lt (omega (arith, so.wide, so.sized)) in
+      let behind : codes' ≡ (take i codes ++ c ∷ []) ++ drop (i + 1) old = ec ∙ ap (λ (cs : List ℕ). set cs i c) so.untouched ∙ set_behind (take i codes) old i c lt (omega (arith, so.wide, so.sized)) in
       let step : coded limit ns (take i codes) (n ∷ rest) ≡ coded limit (with_name limit ns n) (take i codes ++ place_in ns n ∷ []) rest = coded_more limit ns (take i codes) n rest ∙ cond-true _ _ _ o.0 in
       record {
         place = omega (arith, so.place, add-mul i 1 w);
         size = q.size;
         within = q.within;
         sized = so.sized;
-        wide = ap length ec ∙ length-set codes i c.code ∙ so.wide;
+        wide = ap length ec ∙ length-set codes i c ∙ so.wide;
         memory = q.memory;
-        untouched = behind ∙ ap (λ (cs : List ℕ). cs ++ drop (i + 1) old) (sym (ap (take (i + 1)) ec ∙ take_more_set codes i c.code wide));
+        untouched = behind ∙ ap (λ (cs : List ℕ). cs ++ drop (i + 1) old) (sym (ap (take (i + 1)) ec ∙ take_more_set codes i c wide));
         accepted_so = ap (λ (xs : List ℕ). take (i + 1) codes' ++ accepted limit xs rest) q.names ∙ ap (λ (cs : List ℕ). cs ++ accepted limit (with_name limit ns n) rest) written ∙ append_assoc (take i codes) (place_in ns n ∷ []) (accepted limit (with_name limit ns n) rest) ∙ ap (λ (cs : List ℕ). take i codes ++ cs) (sym (accepted_more limit ns n rest ∙ cond-true _ _ _ o.0)) ∙ ap (λ (ms : List ℕ). take i codes ++ accepted limit ns ms) (sym row) ∙ so.accepted_so;
         coded_so = ap (λ (xs : List ℕ). coded limit xs (take (i + 1) codes') rest) q.names ∙ ap (λ (cs : List ℕ). coded limit (with_name limit ns n) cs rest) written ∙ sym step ∙ ap (coded limit ns (take i codes)) (sym row) ∙ so.coded_so;
         learnt_so = ap (λ (xs : List ℕ). learnt limit xs rest) q.names ∙ sym (learnt_more limit ns n rest) ∙ ap (learnt limit ns) (sym row) ∙ so.learnt_so;
       }
 
-  pub progress_refused : (mem' : List X) (k' : ℕ) (r : Refusal) → count ≤ 4096 → mem' ≡ looked_memory f mem k (make (number_at (bit_of 8 bytes) at w)) → k' ≡ looked_count f mem k (make (number_at (bit_of 8 bytes) at w)) → looked_up f mem k (make (number_at (bit_of 8 bytes) at w)) ≡ Err r → (Err (by_names r (i + 1)) ≡ names_answer (limit_of (length start)) (names_in w bytes count)) × Ended make w bytes count start mem' k' × (codes ≡ with_codes (codes_before (limit_of (length start)) (names_in w bytes count)) old)
+  pub progress_refused : (mem' : List X) (k' : ℕ) (r : Refusal) → count ≤ 4096 → mem' ≡ looked_memory f mem k (make (number_at (bit_of 8 bytes) at w)) → k' ≡ looked_count f mem k (make (number_at (bit_of 8 bytes) at w)) → looked_up f mem k (make (number_at (bit_of 8 bytes) at w)) ≡ Err r → (Err (by_names r (i + 1)) ≡ coded_answer (codes_of (limit_of (length start)) (names_in w bytes count))) × Ended make w bytes count start mem' k' × (codes ≡ with_codes (codes_before (limit_of (length start)) (names_in w bytes count)) old)
   progress_refused mem' k' r most em ek el =
       let n = number_at (bit_of 8 bytes) at w in
       let ns = listed f mem k in
@@ -214,24 +212,20 @@ module _ {X : Type 0} (f : X → ℕ) (make : ℕ → X) (w : ℕ) (back : (n : 
       let all : ns ≡ names_of limit (names_in w bytes count) = sym (learnt_full limit ns (n ∷ rest) o.2) ∙ ap (learnt limit ns) (sym row) ∙ so.learnt_so in
       let none : accepted limit ns (numbers_at (bit_of 8 bytes) w at (count - i)) ≡ [] = ap (accepted limit ns) row ∙ accepted_more limit ns n rest ∙ cond-false _ _ _ o.0 in
       let same : with_name limit ns n ≡ ns = cond-false _ _ _ (and_right (not (known ns n)) (ltb (length ns) limit) (le-ltb _ _ o.2)) in
-      (ap (λ (e : Refusal). Err (by_names e (i + 1))) o.1 ∙ ap (coded_answer (names_in w bytes count)) (sym refused), ended f make w bytes count start mem' k' q.size q.within q.memory (q.names ∙ same ∙ all), codes_ended f make w bytes count start old i at mem k codes so (omega arith) none)
-
-  -- the list counts one more exactly if the name was added just now
-  count_more : (k' : ℕ) (c : Lookup) → k' ≡ looked_count f mem k (make (number_at (bit_of 8 bytes) at w)) → looked_up f mem k (make (number_at (bit_of 8 bytes) at w)) ≡ Ok c → k' ≡ k + bit c.added
-  count_more k' c ek el = omega (arith, so.size, so.within, ek, looked_adds f mem k (make (number_at (bit_of 8 bytes) at w)) c el)
+      (ap (λ (e : Refusal). Err (by_names e (i + 1))) o.1 ∙ ap coded_answer (sym refused), ended f make w bytes count start mem' k' q.size q.within q.memory (q.names ∙ same ∙ all), codes_ended f make w bytes count start old i at mem k codes so (omega arith) none)
 
   -- the same, with what the reader holds and the refusal by its place
   module _ (read : List ℕ) (er : read ≡ bytes) (most : count ≤ 4096) (mem' : List X) (k' : ℕ) (em : mem' ≡ looked_memory f mem k (make (number_at (bit_of 8 read) at w))) (ek : k' ≡ looked_count f mem k (make (number_at (bit_of 8 read) at w))) where
     en : number_at (bit_of 8 read) at w ≡ number_at (bit_of 8 bytes) at w
     en = ap (λ (bs : List ℕ). number_at (bit_of 8 bs) at w) er
 
-    pub turn_more : (at' : ℕ) (codes' : List ℕ) (c : Lookup) → at' ≡ at + w → at_place (i + 1) (looked_up f mem k (make (number_at (bit_of 8 read) at w))) ≡ Ok c → codes' ≡ set codes i c.code → Progress f make w bytes count start old (i + 1) at' mem' k' codes' × (k' ≡ k + bit c.added)
+    pub turn_more : (at' : ℕ) (codes' : List ℕ) (c : ℕ) → at' ≡ at + w → at_place (i + 1) (looked_up f mem k (make (number_at (bit_of 8 read) at w))) ≡ Ok c → codes' ≡ set codes i c → Progress f make w bytes count start old (i + 1) at' mem' k' codes'
     turn_more at' codes' c ea el ec =
-        let count_is = ek ∙ ap (λ n. looked_count f mem k (make n)) en in
-        let found = placed_ok _ _ _ (ap (λ n. at_place (i + 1) (looked_up f mem k (make n))) (sym en) ∙ el) in
-        (progress_more at' mem' k' codes' c most ea (em ∙ ap (λ n. looked_memory f mem k (make n)) en) count_is found ec, count_more k' c count_is found)
+        progress_more at' mem' k' codes' c most ea
+        (em ∙ ap (λ n. looked_memory f mem k (make n)) en) (ek ∙ ap (λ n. looked_count f mem k (make n)) en)
+        (placed_ok _ _ _ (ap (λ n. at_place (i + 1) (looked_up f mem k (make n))) (sym en) ∙ el)) ec
 
-    pub turn_refused : (e : LoadFault) → at_place (i + 1) (looked_up f mem k (make (number_at (bit_of 8 read) at w))) ≡ Err e → (Err e ≡ names_answer (limit_of (length start)) (names_in w bytes count)) × Ended make w bytes count start mem' k' × (codes ≡ with_codes (codes_before (limit_of (length start)) (names_in w bytes count)) old)
+    pub turn_refused : (e : LoadFault) → at_place (i + 1) (looked_up f mem k (make (number_at (bit_of 8 read) at w))) ≡ Err e → (Err e ≡ coded_answer (codes_of (limit_of (length start)) (names_in w bytes count))) × Ended make w bytes count start mem' k' × (codes ≡ with_codes (codes_before (limit_of (length start)) (names_in w bytes count)) old)
     turn_refused e el =
         let r = placed_err _ _ _ (ap (λ n. at_place (i + 1) (looked_up f mem k (make n))) (sym en) ∙ el) in
         let q = progress_refused mem' k' r.0 most (em ∙ ap (λ n. looked_memory f mem k (make n)) en) (ek ∙ ap (λ n. looked_count f mem k (make n)) en) r.1 in
@@ -245,6 +239,9 @@ module _ {X : Type 0} (f : X → ℕ) (make : ℕ → X) (w : ℕ) (bytes : List
       ∙ ap (coded (limit_of (length start)) (listed f mem k) (take i codes)) (numbers_none (bit_of 8 bytes) w at i count (omega arith))
       ∙ coded_none (limit_of (length start)) (listed f mem k) (take i codes)
       ∙ ap (λ (n : ℕ). Ok (take n codes)) is
+
+  pub progress_answer : Ok count ≡ coded_answer (codes_of (limit_of (length start)) (names_in w bytes count))
+  progress_answer = ap Ok (sym (length-take-le count codes (omega (arith, so.wide)))) ∙ ap coded_answer (sym progress_codes)
 
   pub progress_written : codes ≡ with_codes (codes_before (limit_of (length start)) (names_in w bytes count)) old
   progress_written =
@@ -260,7 +257,7 @@ module _ {X : Type 0} (f : X → ℕ) (make : ℕ → X) (w : ℕ) (bytes : List
 pub refused_layout : {X : Type 0} (make : ℕ → X) (kind width size : ℕ) (bytes : List ℕ) (start : List X) (old : List ℕ) (k w : ℕ) (e : LoadFault) → k ≡ kind → w ≡ width → laid_out k w bytes ≡ Err e → (Err e ≡ decoded kind width size bytes) × (start ≡ with_records make (names_of (limit_of size) (names_recorded kind width bytes)) start) × (old ≡ with_codes (codes_before (limit_of size) (names_recorded kind width bytes)) old)
 refused_layout {X} make kind width size bytes start old k w e ek ew er =
     let r : laid_out kind width bytes ≡ Err e = ap (λ (n : ℕ). laid_out n width bytes) (sym ek) ∙ ap (λ (n : ℕ). laid_out k n bytes) (sym ew) ∙ er in
-    let a : decoded kind width size bytes ≡ Err e = ap (λ (x : Result ℕ LoadFault). and_then x (λ n. names_answer (limit_of size) (names_in width bytes n))) r in
+    let a : decoded kind width size bytes ≡ Err e = ap (λ (x : Result ℕ LoadFault). and_then x (λ n. coded_answer (codes_of (limit_of size) (names_in width bytes n)))) r in
     let n : names_of (limit_of size) (names_recorded kind width bytes) ≡ [] = ap (λ (x : Result ℕ LoadFault). names_of (limit_of size) (names_laid width bytes x)) r ∙ learnt_none (limit_of size) [] in
     let c : codes_before (limit_of size) (names_recorded kind width bytes) ≡ [] = ap (λ (x : Result ℕ LoadFault). codes_before (limit_of size) (names_laid width bytes x)) r ∙ accepted_none (limit_of size) [] in
     (sym a, ap (λ (ns : List ℕ). with_records make ns start) (sym n), ap (λ (cs : List ℕ). with_codes cs old) (sym c))

@@ -3,7 +3,6 @@ use Rattle.std.specs.Prelude.{ℕ, suc, ◌+◌, cond, not, ◌||◌, List, [], 
 use Rattle.paging.specs.declared.refusal.Refusal.{Refusal}
 use Rattle.paging.specs.declared.refusal.Refusal.TheVariants.{NoPlaceForName}
 use Rattle.paging.specs.Pages.{bit, has}
-use Rattle.recording.specs.declared.decode.Counts.{Counts}
 use Rattle.recording.specs.declared.fault.LoadFault.{LoadFault}
 use Rattle.recording.specs.Bits.{bit_of, numbers_at}
 use Rattle.names.specs.Lists.{place_in, known, with_name, limit_of}
@@ -55,29 +54,15 @@ unfoldable pub different : List ℕ → ℕ
 different [] = 0
 different (m ∷ ms) = bit (not (has ms m)) + different ms
 
--- so many references, and so many different names among them
-abbrev pub counts : ℕ → ℕ → Counts
-counts n k = record { references = n; names = k }
-
--- a row of names answers its counts where each has a code, and otherwise the place of the one that is refused
-abbrev pub coded_answer : List ℕ → Result (List ℕ) ℕ → Result Counts LoadFault
-coded_answer ms (Ok cs) = Ok (counts (length ms) (different ms))
-coded_answer ms (Err p) = Err (by_names NoPlaceForName p)
-
-abbrev pub names_answer : ℕ → List ℕ → Result Counts LoadFault
-names_answer limit ms = coded_answer ms (codes_of limit ms)
+-- the codes answer how many they are, and a refused name its place
+abbrev pub coded_answer : Result (List ℕ) ℕ → Result ℕ LoadFault
+coded_answer (Ok cs) = Ok (length cs)
+coded_answer (Err p) = Err (by_names NoPlaceForName p)
 
 -- decoding over a memory of so many places: the questions about the layout, and then the names
-abbrev pub decoded : ℕ → ℕ → ℕ → List ℕ → Result Counts LoadFault
+abbrev pub decoded : ℕ → ℕ → ℕ → List ℕ → Result ℕ LoadFault
 decoded kind width size bytes =
-    and_then (laid_out kind width bytes) (λ n. names_answer (limit_of size) (names_in width bytes n))
-
--- what decoding over such a memory leaves: the names of the list, and the codes
-abbrev pub names_left : ℕ → ℕ → ℕ → List ℕ → List ℕ
-names_left kind width size bytes = names_of (limit_of size) (names_recorded kind width bytes)
-
-abbrev pub codes_left : ℕ → ℕ → ℕ → List ℕ → List ℕ
-codes_left kind width size bytes = codes_before (limit_of size) (names_recorded kind width bytes)
+    and_then (laid_out kind width bytes) (λ n. coded_answer (codes_of (limit_of size) (names_in width bytes n)))
 
 -- a memory with the records of the names ns in front
 abbrev pub with_records : {X : Type 0} → (ℕ → X) → List ℕ → List X → List X
@@ -88,6 +73,6 @@ abbrev pub with_codes : List ℕ → List ℕ → List ℕ
 with_codes cs old = cs ++ drop (length cs) old
 
 -- a refused name by its place
-abbrev pub at_place : {X : Type 0} → ℕ → Result X Refusal → Result X LoadFault
-at_place p (Ok x) = Ok x
+abbrev pub at_place : ℕ → Result ℕ Refusal → Result ℕ LoadFault
+at_place p (Ok c) = Ok c
 at_place p (Err e) = Err (by_names e p)

@@ -1,7 +1,7 @@
 //! Decoding a recording: its names are looked up one by one, and their codes written.
 ghost use Rattle.std.specs.Prelude.{◌≡◌, ◌+◌, ◌*◌, ◌≤◌, true, length, take, is_ok, IfOk, if◌then◌else◌, Ok};
 ghost use Rattle.recording.specs.Bits.{bit_of, number_at};
-ghost use Rattle.recording.specs.Coding.{at_place, codes_before, codes_left, codes_of, decoded, names_answer, names_in, names_left, names_of, names_recorded, with_codes, with_records};
+ghost use Rattle.recording.specs.Coding.{at_place, codes_before, codes_of, coded_answer, decoded, names_in, names_of, names_recorded, with_codes, with_records};
 ghost use Rattle.names.specs.Lists.{limit_of, looked_count, looked_memory, looked_up};
 ghost use Rattle.recording.specs.Reading.{bytes_for};
 ghost use Rattle.recording.specs.Writing.{all_named};
@@ -9,24 +9,15 @@ ghost use Rattle.recording.specs.Writing.{all_named};
 use crate::fault::{Layer, LoadFault};
 use crate::layout::checked_layout;
 use crate::reader::Reader;
-use names::list::{Lookup, NameList};
+use names::list::NameList;
 use names::name::Name;
 
-/// What an accepted recording counts.
-#[derive(Clone, Copy)]
-pub struct Counts {
-    /// The references.
-    pub references: usize,
-    /// The different names among them.
-    pub names: usize,
-}
-
-// Looks up the next name that the reader has, which is the one at the place.
-fn next_name<N: Name + Copy>(
+// The code of the next name that the reader has, which is the one at the place.
+fn next_code<N: Name + Copy>(
     reader: &mut Reader,
     list: &mut NameList<N>,
     place: usize,
-) -> Result<Lookup, LoadFault>
+) -> Result<u8, LoadFault>
     requires { reader.old.at + N.width ≤ length reader.old.bytes.now * 8 }
     ensures answer { result ≡ at_place place (looked_up N.bits list.old.memory.now list.old.count (N.named (number_at (bit_of 8 reader.old.bytes.now) reader.old.at N.width))) }
     ensures at { reader.new.at ≡ reader.old.at + N.width }
@@ -37,7 +28,7 @@ fn next_name<N: Name + Copy>(
 {
     let number = reader.take(N::bit_width())?;
     match list.look_up(N::from_bits(number)) {
-        Ok(found) => Ok(found),
+        Ok(code) => Ok(code),
         Err(refusal) => Err(LoadFault {
             refusal,
             layer: Layer::Names,
@@ -46,39 +37,32 @@ fn next_name<N: Name + Copy>(
     }
 }
 
-// Looks up the names of a recording that counts so many, and writes their codes: how many there are, and how many were new.
+// Looks up the names of a recording that counts so many, and writes their codes: the count.
 fn read_names<N: Name + Copy>(
     bytes: &[u8],
     count: usize,
     list: &mut NameList<N>,
     codes: &mut [u8; 4096],
-) -> Result<Counts, LoadFault>
+) -> Result<usize, LoadFault>
     requires most { count ≤ 4096 }
     requires whole { length bytes.now ≡ bytes_for N.width count }
     requires empty { list.old.count ≡ 0 }
-    ensures answer { result ≡ names_answer (limit_of (length list.old.memory.now)) (names_in N.width bytes.now count) }
-    ensures codes { IfOk result (λ a. codes_of (limit_of (length list.old.memory.now)) (names_in N.width bytes.now count) ≡ Ok (take a.references codes.new)) }
-    ensures named { IfOk result (λ a. all_named list.new.count (take a.references codes.new) ≡ true) }
+    ensures answer { result ≡ coded_answer (codes_of (limit_of (length list.old.memory.now)) (names_in N.width bytes.now count)) }
+    ensures codes { IfOk result (λ n. codes_of (limit_of (length list.old.memory.now)) (names_in N.width bytes.now count) ≡ Ok (take n codes.new)) }
+    ensures named { IfOk result (λ n. all_named list.new.count (take n codes.new) ≡ true) }
     ensures written { codes.new ≡ with_codes (codes_before (limit_of (length list.old.memory.now)) (names_in N.width bytes.now count)) codes.old }
     ensures count { list.new.count ≡ length (names_of (limit_of (length list.old.memory.now)) (names_in N.width bytes.now count)) }
     ensures memory { list.new.memory.now ≡ with_records N.named (names_of (limit_of (length list.old.memory.now)) (names_in N.width bytes.now count)) list.old.memory.now }
     ensures lender { list.new.memory.ghost_name ≡ list.old.memory.ghost_name }
 {
     let mut reader = Reader { bytes, at: 24 };
-    let mut names = 0;
     for i in 0..count {
-        let found = next_name(&mut reader, list, i + 1)?;
-        codes[i] = found.code;
-        names += found.added as usize;
+        codes[i] = next_code(&mut reader, list, i + 1)?;
     }
-    Ok(Counts {
-        references: count,
-        names,
-    })
+    Ok(count)
 }
 
-/// Decodes a recording: empties the list, looks up each name in it, and writes the codes. It answers how many, and how many
-/// different names they stand for.
+/// Decodes a recording: empties the list, looks up each name in it, and writes the codes. It answers how many.
 ///
 /// After a refusal the list is empty, and the names added and the codes written before it remain in the two memories. The
 /// memory behind the codes stays as it was.
@@ -86,13 +70,13 @@ pub fn decode<N: Name + Copy>(
     bytes: &[u8],
     list: &mut NameList<N>,
     codes: &mut [u8; 4096],
-) -> Result<Counts, LoadFault>
+) -> Result<usize, LoadFault>
     ensures answer { result ≡ decoded N.kind N.width (length list.old.memory.now) bytes.now }
-    ensures codes { IfOk result (λ a. codes_of (limit_of (length list.old.memory.now)) (names_recorded N.kind N.width bytes.now) ≡ Ok (take a.references codes.new)) }
-    ensures named { IfOk result (λ a. all_named list.new.count (take a.references codes.new) ≡ true) }
-    ensures written { codes.new ≡ with_codes (codes_left N.kind N.width (length list.old.memory.now) bytes.now) codes.old }
-    ensures count { list.new.count ≡ (if is_ok result then length (names_left N.kind N.width (length list.old.memory.now) bytes.now) else 0) }
-    ensures memory { list.new.memory.now ≡ with_records N.named (names_left N.kind N.width (length list.old.memory.now) bytes.now) list.old.memory.now }
+    ensures codes { IfOk result (λ n. codes_of (limit_of (length list.old.memory.now)) (names_recorded N.kind N.width bytes.now) ≡ Ok (take n codes.new)) }
+    ensures named { IfOk result (λ n. all_named list.new.count (take n codes.new) ≡ true) }
+    ensures written { codes.new ≡ with_codes (codes_before (limit_of (length list.old.memory.now)) (names_recorded N.kind N.width bytes.now)) codes.old }
+    ensures count { list.new.count ≡ (if is_ok result then length (names_of (limit_of (length list.old.memory.now)) (names_recorded N.kind N.width bytes.now)) else 0) }
+    ensures memory { list.new.memory.now ≡ with_records N.named (names_of (limit_of (length list.old.memory.now)) (names_recorded N.kind N.width bytes.now)) list.old.memory.now }
     ensures lender { list.new.memory.ghost_name ≡ list.old.memory.ghost_name }
 {
     list.clear();

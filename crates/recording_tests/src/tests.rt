@@ -1,27 +1,26 @@
 //! Recordings loaded and stored.
-use names::list::{Lookup, NameList};
+use names::list::NameList;
 use names::name::{Page, TaskPage};
-use paging::refusal::Refusal;
-use recording::decode::{Counts, decode};
+use recording::decode::decode;
 use recording::encode::encode;
 use recording::fault::{Layer, LoadFault};
 
-// The refusal's number, whether the layer of names refused, and the place; or 0, and the references and different names.
-fn numbers(answer: Result<Counts, LoadFault>) -> (u8, bool, usize, usize) {
+// The refusal's number, 1 for the layer of names, and the place.
+fn numbers(answer: Result<usize, LoadFault>) -> (u8, bool, usize) {
     match answer {
-        Ok(counts) => (0, false, counts.references, counts.names),
+        Ok(count) => (0, false, count),
         Err(fault) => {
             let names = match fault.layer {
                 Layer::Bytes => false,
                 Layer::Names => true,
             };
-            (fault.refusal.number(), names, fault.place, 0)
+            (fault.refusal.number(), names, fault.place)
         }
     }
 }
 
 // What decoding answers over so many places of bare pages, at most four.
-fn pages(bytes: &[u8], places: usize) -> (u8, bool, usize, usize) {
+fn pages(bytes: &[u8], places: usize) -> (u8, bool, usize) {
     let mut memory = [Page { page: 0 }; 4];
     let mut codes = [0; 4096];
     let mut list = NameList::over(&mut memory[0..places.min(4)]);
@@ -41,12 +40,12 @@ fn refusals(rt: HostRuntime) {
     assert_eq!(rt;
         answers,
         [
-            (1, false, 2, 0),
-            (2, false, 0, 0),
-            (3, false, 1, 0),
-            (4, false, 5, 0),
-            (5, false, 4, 0),
-            (6, true, 2, 0),
+            (1, false, 2),
+            (2, false, 0),
+            (3, false, 1),
+            (4, false, 5),
+            (5, false, 4),
+            (6, true, 2),
         ]
     );
 }
@@ -60,7 +59,7 @@ fn loaded_and_stored(rt: HostRuntime) {
     let mut list = NameList::over(&mut memory);
     assert_eq!(rt;
         numbers(decode(bytes, &mut list, &mut codes)),
-        (0, false, 12, 5)
+        (0, false, 12)
     );
     assert_eq!(rt; list.len(), 5);
     assert_eq!(rt;
@@ -84,29 +83,9 @@ fn tasks(rt: HostRuntime) {
     let mut list = NameList::over(&mut memory);
     assert_eq!(rt;
         numbers(decode(bytes, &mut list, &mut codes)),
-        (0, false, 3, 2)
+        (0, false, 3)
     );
     assert_eq!(rt; &codes[0..3], b"\x00\x01\x00");
     assert_eq!(rt; (memory[0].task, memory[0].page), (15, 1));
     assert_eq!(rt; (memory[1].task, memory[1].page), (1, 1));
-}
-
-// The code and whether the name was added; a refusal as its number, with "yes".
-fn found(answer: Result<Lookup, Refusal>) -> (u8, bool) {
-    match answer {
-        Ok(found) => (found.code, found.added),
-        Err(refusal) => (refusal.number(), true),
-    }
-}
-
-#[test]
-fn names_are_added_once(rt: HostRuntime) {
-    let mut memory = [Page { page: 0 }; 2];
-    let mut list = NameList::over(&mut memory);
-    assert_eq!(rt; found(list.look_up(Page { page: 7 })), (0, true));
-    assert_eq!(rt; found(list.look_up(Page { page: 9 })), (1, true));
-    assert_eq!(rt; found(list.look_up(Page { page: 4103 })), (0, false));
-    assert_eq!(rt; found(list.look_up(Page { page: 9 })), (1, false));
-    assert_eq!(rt; found(list.look_up(Page { page: 8 })), (6, true));
-    assert_eq!(rt; list.len(), 2);
 }

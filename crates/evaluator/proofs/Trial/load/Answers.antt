@@ -1,28 +1,26 @@
-use Rattle.std.proofs.Common.{◌≡◌, cond, length, is_ok, Err, Result, sym, ap, ◌∙◌, arith}
+use Rattle.std.proofs.Common.{◌≡◌, ℕ, cond, length, is_ok, Ok, Err, Result, sym, ap, ◌∙◌, arith}
 use Rattle.std.proofs.lemmas.Result.{err_from_is_err_and}
-use Rattle.recording.specs.declared.decode.Counts.{Counts}
 use Rattle.recording.specs.declared.fault.LoadFault.{LoadFault}
-use Rattle.recording.specs.Coding.{names_of, names_recorded}
+use Rattle.recording.specs.Coding.{decoded, names_of, names_recorded}
 use Rattle.names.specs.Lists.{limit_of}
 use Rattle.evaluator.specs.Histories.{loaded}
-use Rattle.evaluator.proofs.Loads.{refused_string, loaded_counts, loaded_few}
+use Rattle.evaluator.proofs.Loads.{refused_string, loaded_few}
 use Rattle.evaluator.proofs.Stores.{load_stores}
 use Rattle.evaluator.proofs.Trial.load.Goals as goal
 
-pub returns-in_err-counts : goal.returns-in_err-counts
-returns-in_err-counts g c =
+pub returns-in_err-count : goal.returns-in_err-count
+returns-in_err-count g c =
     let kind = g.N.Name.kind in
     let width = g.N.Name.width in
     let places = length c.args.list.now.memory.now in
     let bytes = c.args.bytes.now in
     let p = err_from_is_err_and c.from_residual.result c.from_residual.ensures.1 in
-    let same : c.from_residual.result ≡ c.decode.result = p.1 ∙ ap Err p.2 ∙ sym c.in_err-counts.was in
+    let same : c.from_residual.result ≡ c.decode.result = p.1 ∙ ap Err p.2 ∙ sym c.in_err-count.was in
     record {
       answer = same ∙ c.decode.ensures.answer;
-      string = sym (refused_string kind width places bytes _ (sym c.decode.ensures.answer ∙ c.in_err-counts.was));
-      counts = rw p.1 tt;
+      string = sym (refused_string kind width places bytes _ (sym c.decode.ensures.answer ∙ c.in_err-count.was));
       count = c.decode.ensures.count ∙
-          ap (λ (r : Result Counts LoadFault). cond (is_ok r) (length (names_of (limit_of places) (names_recorded kind width bytes))) 0) (sym same);
+          ap (λ (r : Result ℕ LoadFault). cond (is_ok r) (length (names_of (limit_of places) (names_recorded kind width bytes))) 0) (sym same);
       memory = c.decode.ensures.memory;
       lender = c.decode.ensures.lender;
       stores = rw p.1 tt;
@@ -34,14 +32,13 @@ returns g c =
     let width = g.N.Name.width in
     let memory = c.args.list.now.memory.now in
     let bytes = c.args.bytes.now in
-    let n = c.in_ok-counts.counts in
-    let coded = c.in_ok-counts.ensures.codes in
-    let answer = sym c.decode.ensures.answer ∙ c.in_ok-counts.was in
-    let count = c.in_ok-counts.ensures.count in
+    let n = c.in_ok-count.count in
+    let coded = c.in_ok-count.ensures.codes in
+    let answer = sym c.decode.ensures.answer ∙ c.in_ok-count.was in
+    let count = c.in_ok-count.ensures.count in
     record {
       answer = sym answer;
       string = sym (ap loaded coded);
-      counts = loaded_counts kind width (length memory) bytes n _ answer coded;
       count = count;
       memory = c.decode.ensures.memory;
       lender = c.decode.ensures.lender;
@@ -51,7 +48,7 @@ returns g c =
 
 pub invariant_of-self-2 : goal.invariant_of-self-2
 invariant_of-self-2 g c = (
-  loaded_few g.N.Name.kind g.N.Name.width (length c.args.list.now.memory.now) c.args.bytes.now c.in_ok-counts.counts
-      _ (sym c.decode.ensures.answer ∙ c.in_ok-counts.was) c.in_ok-counts.ensures.codes,
+  loaded_few g.N.Name.kind g.N.Name.width (length c.args.list.now.memory.now) c.args.bytes.now c.in_ok-count.count
+      _ (sym c.decode.ensures.answer ∙ c.in_ok-count.was) c.in_ok-count.ensures.codes,
   tt,
 )

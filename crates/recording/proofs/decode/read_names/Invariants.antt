@@ -5,7 +5,6 @@ use Rattle.recording.proofs.decode.read_names.Given as goal
 
 abbrev pub invariant-loop-i : goal.invariant-loop-i
 invariant-loop-i g l =
-    Progress g.N.Name.bits g.N.Name.named g.N.Name.width l.bytes l.count l.initial.list.memory.now l.initial.codes l.i l.reader.1.0 l.list.memory.now l.list.count l.codes
-    × (l.reader.0.now ≡ l.bytes)
+    Progress g.N.Name.bits g.N.Name.named g.N.Name.width l.bytes l.count l.initial.list.memory.now l.initial.codes l.i l.reader.at l.list.memory.now l.list.count l.codes
+    × (l.reader.bytes.now ≡ l.bytes)
     × (l.list.memory.ghost_name ≡ l.initial.list.memory.ghost_name)
-    × (l.names ≡ l.list.count)

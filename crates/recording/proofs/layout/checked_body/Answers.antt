@@ -6,4 +6,4 @@ use Rattle.recording.proofs.layout.checked_body.Goals as goal
 pub invariant_of-reader : goal.invariant_of-reader
 invariant_of-reader c =
     let most = mul-le c.args.count c.args.width 4096 16 c.requires.count c.requires.width in
-    (omega arith, (omega arith, tt))
+    record { short = omega arith; within = omega arith }

@@ -2,9 +2,9 @@
 use Rattle.std.proofs.Common.{◌+◌, Ok, Err, sym, refl, ap, ◌∙◌, inl, inr, arith}
 use Rattle.recording.proofs.Layouts.{Front, front_ok, moved_on, head_unmarked, head_many, head_counted}
 use Rattle.recording.proofs.layout.header.Goals as goal
-use Rattle.recording.proofs.layout.header.Goals.{In-ok-count, then-version-ne1-via-then-version-ne1, then-version-ne1-via-else-version-ne1+then-own_kind-kind, then-version-ne1-via-else-version-ne1+else-own_kind-kind+then-zero-ne0}
+use Rattle.recording.proofs.layout.header.Goals.{In_ok-count, then-version-ne1-via-then-version-ne1, then-version-ne1-via-else-version-ne1+then-own_kind-kind, then-version-ne1-via-else-version-ne1+else-own_kind-kind+then-zero-ne0}
 
-front : (c : In-ok-count) → Front c.args.bytes.now c.in_ok-version.version c.in_ok-own_kind.own_kind c.in_ok-zero.zero c.in_ok-count.count
+front : (c : In_ok-count) → Front c.args.bytes.now c.in_ok-version.version c.in_ok-own_kind.own_kind c.in_ok-zero.zero c.in_ok-count.count
 front c =
     let bytes = c.args.bytes.now in
     let len = c.min-len.result in
@@ -27,7 +27,7 @@ front c =
 
 pub returns-then-version-ne1 : goal.returns-then-version-ne1
 returns-then-version-ne1 c =
-    let f = front (goal.at.returns-then-version-ne1 c).In-ok-count in
+    let f = front (goal.at.returns-then-version-ne1 c).In_ok-count in
     ap Err c.refused.ensures ∙ elim c.then-version-ne1.branch [
       | then-version-ne1-via-then-version-ne1 w ↦ head_unmarked _ c.args.kind _ _ _ _ f (inl w.if-version-ne1.true)
       | then-version-ne1-via-else-version-ne1+then-own_kind-kind w ↦ head_unmarked _ c.args.kind _ _ _ _ f (inr (inl w.if-own_kind-kind.true))
@@ -35,7 +35,7 @@ returns-then-version-ne1 c =
     ]
 
 pub returns-then-count-gt-MOST : goal.returns-then-count-gt-MOST
-returns-then-count-gt-MOST c = ap Err c.refused-then-count-gt-MOST.ensures ∙ head_many _ _ _ _ _ _ (front (goal.at.returns-then-count-gt-MOST c).In-ok-count) c.if-version-ne1.false c.if-own_kind-kind.false c.if-zero-ne0.false c.if-count-gt-MOST.true
+returns-then-count-gt-MOST c = ap Err c.refused-then-count-gt-MOST.ensures ∙ head_many _ _ _ _ _ _ (front (goal.at.returns-then-count-gt-MOST c).In_ok-count) c.if-version-ne1.false c.if-own_kind-kind.false c.if-zero-ne0.false c.if-count-gt-MOST.true
 
 pub returns : goal.returns
-returns c = head_counted _ _ _ _ _ _ (front (goal.at.returns c).In-ok-count) c.if-version-ne1.false c.if-own_kind-kind.false c.if-zero-ne0.false c.if-count-gt-MOST.false
+returns c = head_counted _ _ _ _ _ _ (front (goal.at.returns c).In_ok-count) c.if-version-ne1.false c.if-own_kind-kind.false c.if-zero-ne0.false c.if-count-gt-MOST.false
