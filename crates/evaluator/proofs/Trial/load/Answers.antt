@@ -47,8 +47,7 @@ returns g c =
     }
 
 pub invariant_of-self-2 : goal.invariant_of-self-2
-invariant_of-self-2 g c = (
-  loaded_few g.N.Name.kind g.N.Name.width (length c.args.list.now.memory.now) c.args.bytes.now c.in_ok-count.count
-      _ (sym c.decode.ensures.answer ∙ c.in_ok-count.was) c.in_ok-count.ensures.codes,
-  tt,
-)
+invariant_of-self-2 g c = record {
+  few = loaded_few g.N.Name.kind g.N.Name.width (length c.args.list.now.memory.now) c.args.bytes.now c.in_ok-count.count
+      _ (sym c.decode.ensures.answer ∙ c.in_ok-count.was) c.in_ok-count.ensures.codes;
+}
