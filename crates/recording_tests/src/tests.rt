@@ -64,14 +64,14 @@ fn loaded_and_stored(rt: HostRuntime) {
     assert_eq!(rt; list.len(), 5);
     assert_eq!(rt;
         &codes[0..12],
-        b"\x00\x01\x02\x03\x00\x01\x04\x00\x01\x02\x03\x04"
+        b"\x00\x01\x02\x03\x00\x01\x04\x00\x01\x02\x03\x04".as_slice()
     );
     let mut out = [7; 22];
     match encode(&list, &codes[0..12], &mut out) {
         Ok(len) => assert_eq!(rt; len, 21),
         Err(refusal) => assert_eq!(rt; refusal.number(), 0),
     }
-    assert_eq!(rt; &out[0..21], bytes);
+    assert_eq!(rt; &out[0..21], bytes.as_slice());
     assert_eq!(rt; out[21], 7);
 }
 
@@ -85,7 +85,7 @@ fn tasks(rt: HostRuntime) {
         numbers(decode(bytes, &mut list, &mut codes)),
         (0, false, 3)
     );
-    assert_eq!(rt; &codes[0..3], b"\x00\x01\x00");
+    assert_eq!(rt; &codes[0..3], b"\x00\x01\x00".as_slice());
     assert_eq!(rt; (memory[0].task, memory[0].page), (15, 1));
     assert_eq!(rt; (memory[1].task, memory[1].page), (1, 1));
 }

@@ -133,7 +133,7 @@ fn candidates(
             pages.push((next[c], c as u8))?;
         }
     }
-    pages.sort();
+    pages.sort()?;
     Ok(pages)
 }
 

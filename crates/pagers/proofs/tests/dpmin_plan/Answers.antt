@@ -6,7 +6,7 @@ use Rattle.pager.proofs.Replays.{plan_most}
 use Rattle.pagers.proofs.tests.dpmin_plan.Goals as goal
 
 pub plan-count-requires : goal.plan-count-requires
-plan-count-requires c =
+plan-count-requires g c =
     record {
       short = omega arith;
       fits = plan_most (held_on (dpmin_model c.new-pager.result) (0 ∷ 1 ∷ 2 ∷ 3 ∷ 0 ∷ 1 ∷ 4 ∷ 0 ∷ 1 ∷ 2 ∷ 3 ∷ 4 ∷ [])) 12;

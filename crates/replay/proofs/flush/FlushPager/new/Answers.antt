@@ -5,4 +5,4 @@ use Rattle.paging.proofs.Sets.{size_nothing}
 use Rattle.replay.proofs.flush.FlushPager.new.Goals as goal
 
 pub invariant_of-result : goal.invariant_of-result
-invariant_of-result c = (omega (arith, ap size c.new.ensures, size_nothing), tt)
+invariant_of-result c = record { within = omega (arith, ap size c.new.ensures, size_nothing) }

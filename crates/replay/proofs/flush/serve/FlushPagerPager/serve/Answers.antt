@@ -37,7 +37,7 @@ invariant_of-self c =
     let x = get_or c.args.row.now 0 0 in
     let e : pages c.insert.new.self ≡ with_page x nothing = c.insert.ensures ∙ ap (with_page x) c.new-new.ensures in
     let f = c.args.self.now.frames in
-    (omega (arith, ap size e, alone_fits (frames_of f) x f.some), tt)
+    record { within = omega (arith, ap size e, alone_fits (frames_of f) x f.some) }
 
 pub returns : goal.returns
 returns c =
