@@ -1,10 +1,10 @@
 -- The guarantee, for every row of calls. Assumes nothing.
-use Rattle.std.proofs.Common.{◌≡◌, ℕ, zero, suc, ◌+◌, ◌-◌, ◌<◌, ◌≤◌, Bool, true, false, cond, ◌&&◌, eqb, ltb, leb, ◌⊎◌, List, [], ◌∷◌, ◌++◌, length, get_or, take, Some, None, Ok, Err, Option, Result, sym, refl, ap, ◌∙◌, subst, inl, inr, arith}
+use Rattle.std.proofs.Common.{◌≡◌, ℕ, zero, suc, ◌+◌, ◌-◌, ◌<◌, ◌≤◌, Bool, true, false, cond, eqb, ltb, leb, ◌⊎◌, List, [], ◌∷◌, ◌++◌, length, get_or, take, Some, None, Ok, Err, Option, refl, subst, inl, inr, arith}
 use Rattle.std.proofs.lemmas.List.{length_push, length-take-le, get_or-take, get_or_push, get_or_append_left}
-use Rattle.std.proofs.lemmas.Bool.{cases_Bool, cases_lt, ltb-true, leb-true, le-leb, and_from, cond-true, eq-eqb}
+use Rattle.std.proofs.lemmas.Bool.{cases_Bool, cases_lt, ltb-true, le-leb, and_from, eq-eqb}
 use Rattle.paging.specs.declared.policy.Policy.TheVariants.{Lru, Min, Dpmin}
 use Rattle.paging.specs.declared.refusal.Refusal.{Refusal}
-use Rattle.paging.specs.declared.refusal.Refusal.TheVariants.{BadFrameCount, PagerHoldsPages, NoFrameCountWithin}
+use Rattle.paging.specs.declared.refusal.Refusal.TheVariants.{BadFrameCount, PagerHoldsPages}
 use Rattle.paging.specs.Frames.{is_frames}
 use Rattle.paging.specs.Pages.{codes, size}
 use Rattle.paging.specs.Schedules.{Coded}
@@ -19,9 +19,9 @@ use Rattle.ranking.specs.Edges.{edge, faults_at, Falls}
 use Rattle.ranking.proofs.Edges.{edge_of, pass_row_at}
 use Rattle.ranking.proofs.Inclusions.{faults_fall}
 use Rattle.evaluator.specs.Strings.{put_string, take_string}
-use Rattle.evaluator.specs.Answers.{figures_answer, run_answer, edge_answer, ranking_edge, instants_at, found}
+use Rattle.evaluator.specs.Answers.{figures_answer, run_answer, instants_at, found}
 use Rattle.evaluator.specs.Histories.{Call, put, take_back, clear, load, after_call, after_calls, Possible, AllPossible}
-use Rattle.evaluator.specs.Guarantee.{Told, letter_m, letter_d, FewestPulls, FewestInstants, NoBetter, AtFrames, EdgeAt, EdgeTold, Ranked, EdgesByLetter, Stands, Guarantee}
+use Rattle.evaluator.specs.Guarantee.{Told, letter_m, letter_d, FewestPulls, FewestInstants, NoBetter, AtFrames, EdgeTold, Ranked, EdgesByLetter, Stands, Guarantee}
 use Rattle.evaluator.proofs.Loads.{load_fits}
 
 -- a string of at most 4,096 references to pages

@@ -1,13 +1,13 @@
 -- The string that a load leaves. Assumes nothing.
-use Rattle.std.proofs.Common.{◌≡◌, ℕ, suc, ◌+◌, ◌-◌, ◌<◌, ◌≤◌, min, Bool, true, false, cond, not, ◌&&◌, ◌||◌, eqb, ltb, leb, ◌⊎◌, List, [], ◌∷◌, ◌++◌, length, get_or, take, Ok, Err, Result, sym, refl, ap, ◌∙◌, inl, inr, arith, length-take}
+use Rattle.std.proofs.Common.{◌≡◌, ℕ, suc, ◌+◌, ◌-◌, ◌<◌, ◌≤◌, min, Bool, true, false, ◌||◌, eqb, ltb, leb, ◌⊎◌, List, [], ◌∷◌, ◌++◌, length, get_or, Ok, Err, Result, sym, refl, ap, ◌∙◌, inl, inr, arith}
 use Rattle.std.proofs.lemmas.List.{length_push, get_or_push, get_or_append_left}
-use Rattle.std.proofs.lemmas.Bool.{cases_Bool, cases_lt, cond-true, cond-false, ltb-true, ltb-false, leb-true, or_cases}
+use Rattle.std.proofs.lemmas.Bool.{cases_Bool, cases_lt, cond-true, cond-false, ltb-true, leb-true, or_cases}
 use Rattle.paging.specs.Pages.{codes}
 use Rattle.paging.specs.Schedules.{Coded}
 use Rattle.paging.specs.declared.refusal.Refusal.TheVariants.{TooShort, BadHeader, TooManyReferences, WrongLength, SpareBitsSet}
 use Rattle.recording.specs.declared.fault.LoadFault.{LoadFault}
 use Rattle.recording.specs.Coding.{coded, codes_of, coded_answer, decoded, names_in, names_laid, names_recorded}
-use Rattle.names.specs.Lists.{limit_of, place_in, known, adds, with_name}
+use Rattle.names.specs.Lists.{limit_of, place_in, known, with_name}
 use Rattle.recording.proofs.Bitwise.{length_numbers}
 use Rattle.names.proofs.Places.{place_most}
 use Rattle.recording.proofs.Progress.{coded_more, coded_none}

@@ -1,7 +1,7 @@
 -- What was loaded is what will be stored, and what was stored is what will be loaded. Assumes nothing.
-use Rattle.std.proofs.Common.{◌≡◌, ℕ, zero, suc, ◌+◌, ◌-◌, ◌^◌, ◌<◌, ◌≤◌, Bool, true, false, cond, ltb, ◌⊎◌, List, [], ◌∷◌, ◌++◌, map, length, get_or, take, drop, IfOk, Ok, Err, Result, sym, refl, ap, ◌∙◌, subst, inl, inr, arith, pow_pos}
-use Rattle.std.proofs.lemmas.List.{length-append, length-drop, length-map, length_push, take_at, get_or_push, get_or_append_left}
-use Rattle.std.proofs.lemmas.Bool.{cases_Bool, cases_lt}
+use Rattle.std.proofs.Common.{◌≡◌, ℕ, zero, suc, ◌^◌, ◌<◌, ◌≤◌, Bool, true, false, cond, ltb, ◌⊎◌, List, [], ◌∷◌, map, length, get_or, take, drop, IfOk, Ok, Err, Result, sym, refl, ap, ◌∙◌, subst, inl, inr, arith, pow_pos}
+use Rattle.std.proofs.lemmas.List.{length-append, length-drop, length-map, take_at}
+use Rattle.std.proofs.lemmas.Bool.{cases_Bool}
 use Rattle.paging.specs.declared.refusal.Refusal.{Refusal}
 use Rattle.paging.specs.declared.refusal.Refusal.TheVariants.{OutputTooShort, CodeWithoutName}
 use Rattle.recording.specs.declared.fault.LoadFault.{LoadFault}

@@ -1,8 +1,7 @@
 -- The worked examples. Assumes nothing.
-use Rattle.std.proofs.Common.{◌≡◌, ℕ, true, List, [], Ok, Err, refl}
+use Rattle.std.proofs.Common.{◌≡◌, Ok, Err, refl}
 use Rattle.paging.specs.declared.policy.Policy.TheVariants.{Dpmin}
 use Rattle.paging.specs.declared.refusal.Refusal.TheVariants.{NoFrameCountWithin}
-use Rattle.paging.specs.Frames.{is_frames}
 use Rattle.paging.specs.Pages.{total}
 use Rattle.paging.specs.Schedules.{next}
 use Rattle.paging.specs.Rankings.{hindmost}

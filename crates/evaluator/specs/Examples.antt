@@ -1,11 +1,8 @@
 -- Worked examples, by the definitions that the calls' contracts use. Assumes nothing.
-use Rattle.std.specs.Prelude.{◌≡◌, ℕ, true, List, [], ◌∷◌, Ok, Err, Result}
-use Rattle.paging.specs.declared.policy.Policy.{Policy}
+use Rattle.std.specs.Prelude.{◌≡◌, ℕ, true, List, [], ◌∷◌, Ok, Err}
 use Rattle.paging.specs.declared.policy.Policy.TheVariants.{Dpmin}
-use Rattle.paging.specs.declared.refusal.Refusal.{Refusal}
 use Rattle.paging.specs.declared.refusal.Refusal.TheVariants.{NoFrameCountWithin}
 use Rattle.paging.specs.Frames.{is_frames}
-use Rattle.paging.specs.Policies.{instants, pulls_of}
 use Rattle.pager.specs.Plans.{word}
 use Rattle.evaluator.specs.Answers.{figures_answer, edge_answer, plan_of}
 use Rattle.evaluator.specs.Histories.{load_string}

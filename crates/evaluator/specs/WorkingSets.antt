@@ -1,5 +1,5 @@
 -- Working sets. Assumes nothing.
-use Rattle.std.specs.Prelude.{◌≡◌, ℕ, suc, ◌-◌, ◌<◌, Bool, cond, ◌&&◌, List, length, take, drop, Ok, Err, Result, nat_le, slice_index}
+use Rattle.std.specs.Prelude.{◌≡◌, ℕ, suc, ◌-◌, ◌<◌, cond, ◌&&◌, List, length, take, drop, Ok, Err, Result, nat_le, slice_index}
 use Rattle.paging.specs.declared.refusal.Refusal.{Refusal}
 use Rattle.paging.specs.declared.refusal.Refusal.TheVariants.{BadWindow}
 use Rattle.paging.specs.Pages.{total, codes, Pages, size, has}

@@ -1,10 +1,10 @@
 -- The text that a load is answered with. Assumes nothing.
-use Rattle.std.proofs.Common.{◌≡◌, ℕ, ◌≤◌, Bool, true, false, cond, leb, ◌⊎◌, List, length, Ok, Err, Result, sym, refl, ap, ◌∙◌, inl, inr, arith}
+use Rattle.std.proofs.Common.{◌≡◌, ℕ, ◌≤◌, true, false, leb, ◌⊎◌, List, length, Ok, Err, Result, sym, ap, ◌∙◌, inl, inr, arith}
 use Rattle.std.proofs.lemmas.Bool.{cases_Bool, cond-true, cond-false}
 use Rattle.paging.specs.declared.refusal.Refusal.{Refusal}
 use Rattle.paging.specs.declared.refusal.Refusal.TheVariants.{OutputTooShort}
 use Rattle.recording.specs.declared.fault.LoadFault.{LoadFault}
-use Rattle.evaluator.specs.Answers.{write_answer, written}
+use Rattle.evaluator.specs.Answers.{write_answer}
 use Rattle.listing.specs.Listings.{figures_text, fault_text, answer_text, own_load, own_string, listing_text, count_written}
 
 -- the load was accepted, and left the string t

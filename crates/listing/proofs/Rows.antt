@@ -1,5 +1,5 @@
 -- The figures of a row, as the calls of a trial answer them. Assumes nothing.
-use Rattle.std.proofs.Common.{◌≡◌, ℕ, ◌+◌, ◌-◌, ◌<◌, ◌≤◌, min, max, Bool, true, cond, List, ◌++◌, length, get_or, take, drop, Ok, Result, sym, refl, ap, ◌∙◌, arith}
+use Rattle.std.proofs.Common.{◌≡◌, ℕ, ◌+◌, ◌-◌, ◌<◌, ◌≤◌, min, max, true, List, ◌++◌, length, get_or, take, drop, Ok, Result, ap, ◌∙◌, arith}
 use Rattle.std.proofs.lemmas.List.FromFn.{length-map-range_with_len, get_or-map-range_with_len}
 use Rattle.std.proofs.lemmas.List.{get_or_append_left, length-take-le}
 use Rattle.std.proofs.lemmas.Bool.{cond-true, le-leb}
@@ -12,7 +12,6 @@ use Rattle.ranking.specs.Stack.{pass_row}
 use Rattle.evaluator.specs.Answers.{figures_answer, pass_writes}
 use Rattle.listing.specs.declared.text.Row.{Row}
 use Rattle.listing.specs.Listings.{row_of}
-use Rattle.listing.proofs.Tables.{no_row}
 
 -- what a pass over the ranking q wrote into a row of 64 numbers
 pub pass_at : (r q : RankingModel) (s start out : List ℕ) (i : ℕ) → out ≡ pass_writes r s start → length start ≡ 64 → r ≡ q → i < 64 →

@@ -5,7 +5,7 @@ use Rattle.std.proofs.lemmas.Bool.{cond-true, cond-false, le-leb, lt-leb}
 use Rattle.paging.specs.declared.refusal.Refusal.TheVariants.{OutputTooShort}
 use Rattle.evaluator.specs.Answers.{write_answer, written}
 use Rattle.listing.specs.declared.text.Row.{Row}
-use Rattle.listing.specs.Texts.{Wrote, overlay, row_text}
+use Rattle.listing.specs.Texts.{Wrote, row_text}
 use Rattle.listing.specs.Listings.{lines}
 
 -- what is read past the end of some rows

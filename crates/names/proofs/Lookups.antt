@@ -5,7 +5,7 @@ use Rattle.std.proofs.lemmas.Bool.Decides.{nat_tests}
 use Rattle.std.proofs.lemmas.Bool.{cases_Bool, cond-true, cond-false, eqb-true, lt-ltb, ltb-true, ltb-false, and_parts, or_parts, not-true}
 use Rattle.paging.specs.declared.refusal.Refusal.{Refusal}
 use Rattle.paging.specs.declared.refusal.Refusal.TheVariants.{NoPlaceForName}
-use Rattle.paging.specs.Pages.{bit, has}
+use Rattle.paging.specs.Pages.{has}
 use Rattle.names.specs.Lists.{place_in, limit_of, known, adds, with_name, look_answer, held, listed, looked_up, looked_count, looked_memory, LookUp}
 use Rattle.names.proofs.Places.{place_most, length_listed}
 

@@ -1,5 +1,5 @@
 -- The place of a name in a row, step by step, and what a look-up comes to.
-use Rattle.std.proofs.Common.{◌≡◌, ℕ, suc, ◌+◌, ◌-◌, ◌<◌, ◌≤◌, true, false, cond, eqb, ltb, List, [], ◌∷◌, map, length, get_or, take, drop, set, Ok, Err, Result, sym, refl, ap, ◌∙◌, suc-le-suc, zero-le, arith}
+use Rattle.std.proofs.Common.{◌≡◌, ℕ, suc, ◌+◌, ◌-◌, ◌<◌, ◌≤◌, true, false, cond, eqb, ltb, List, [], ◌∷◌, map, length, get_or, take, drop, set, Ok, Err, sym, refl, ap, ◌∙◌, suc-le-suc, zero-le, arith}
 use Rattle.std.proofs.lemmas.List.{drop_more, drop_all, length-map, length-take-le}
 use Rattle.std.proofs.lemmas.Bool.{cond-true, cond-false, cond_both, lt-ltb, le-ltb}
 use Rattle.paging.specs.declared.refusal.Refusal.TheVariants.{NoPlaceForName}

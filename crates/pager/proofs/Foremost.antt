@@ -1,9 +1,9 @@
 -- The first pages of DPMIN's order, as they are collected and filled up. Assumes nothing.
-use Rattle.std.proofs.Common.{◌≡◌, ℕ, zero, suc, ◌+◌, ◌<◌, ◌≤◌, Bool, true, false, not, ◌&&◌, ◌||◌, eqb, ltb, ◌⊎◌, List, [], ◌∷◌, length, get_or, sym, refl, ap, ◌∙◌, inl, inr, arith}
+use Rattle.std.proofs.Common.{◌≡◌, ℕ, ◌+◌, ◌<◌, ◌≤◌, Bool, true, false, ◌&&◌, ◌||◌, eqb, ltb, ◌⊎◌, List, length, get_or, sym, ap, ◌∙◌, inl, inr, arith}
 use mathlib.Core.Path.{fun_ext}
 use Rattle.std.proofs.lemmas.Bool.Decides.{nat_tests}
 use Rattle.std.proofs.lemmas.Bool.{ne_eqb, lt-ltb, le-ltb, ltb-true, cases_eq, cases_Bool, cases_lt, and_parts, or_cases, both_ways}
-use Rattle.paging.specs.Pages.{bit, total, codes, Pages, nothing, size, with_page}
+use Rattle.paging.specs.Pages.{bit, codes, Pages, nothing, size, with_page}
 use Rattle.paging.specs.Schedules.{next}
 use Rattle.paging.specs.Policies.{pool, before, rank, foremost}
 use Rattle.paging.proofs.Sums.{total_add, total_le, only_one}

@@ -1,8 +1,8 @@
 -- One place of a run, by the pager before it and after. Assumes nothing.
-use Rattle.std.proofs.Common.{◌≡◌, ℕ, suc, ◌+◌, ◌-◌, ◌<◌, ◌≤◌, Bool, not, ◌&&◌, List, [], length, get_or, take, drop, sym, refl, ap, ◌∙◌, add-one, arith}
+use Rattle.std.proofs.Common.{◌≡◌, ℕ, suc, ◌+◌, ◌-◌, ◌<◌, ◌≤◌, not, ◌&&◌, List, [], length, get_or, take, drop, sym, ap, ◌∙◌, add-one, arith}
 use Rattle.std.proofs.lemmas.List.{take_rest}
 use Rattle.paging.specs.Pages.{bit, total, Pages}
-use Rattle.paging.specs.Schedules.{Holding, pulled, pulls, faults}
+use Rattle.paging.specs.Schedules.{pulled, pulls, faults}
 use Rattle.paging.specs.Models.{PagerModel, served, after, held_on}
 use Rattle.paging.proofs.Sums.{total_suc}
 use Rattle.paging.proofs.Sets.{total_most}

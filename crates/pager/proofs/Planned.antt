@@ -1,13 +1,12 @@
 -- The plan of a pager, place by place. Assumes nothing.
-use Rattle.std.proofs.Common.{◌≡◌, ℕ, zero, suc, ◌+◌, ◌-◌, ◌<◌, ◌≤◌, Bool, true, false, cond, not, ◌&&◌, ◌||◌, ltb, ◌⊎◌, List, [], ◌∷◌, ◌++◌, length, take, drop, sym, refl, ap, ◌∙◌, inl, inr, append-nil, zero-add, add-one, arith, length-append}
+use Rattle.std.proofs.Common.{◌≡◌, ℕ, zero, suc, ◌+◌, ◌-◌, ◌<◌, ◌≤◌, Bool, true, false, not, ◌&&◌, ◌⊎◌, List, [], ◌++◌, length, take, drop, sym, refl, ap, ◌∙◌, inl, inr, append-nil, zero-add, arith, length-append}
 use mathlib.Core.Path.{fun_ext}
 use Rattle.std.proofs.lemmas.List.{nil_from_length}
 use Rattle.std.proofs.lemmas.Bool.{lt-ltb, le-ltb, cases_lt}
 use Rattle.paging.specs.Pages.{bit, total, codes, Pages, nothing, size}
-use Rattle.paging.specs.Schedules.{Holding, pulled}
+use Rattle.paging.specs.Schedules.{pulled}
 use Rattle.paging.specs.Models.{PagerModel, served, after, held_on}
-use Rattle.paging.proofs.Sums.{total_le}
-use Rattle.paging.proofs.Sets.{total_same, bit_most}
+use Rattle.paging.proofs.Sets.{total_same}
 use Rattle.paging.proofs.Balance.{pulled_balance}
 use Rattle.pager.specs.Prepaging.{filled}
 use Rattle.pager.specs.Plans.{less, words, moves, plan_words, written}

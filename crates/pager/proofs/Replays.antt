@@ -1,8 +1,8 @@
 -- What the words of a plan tell. Assumes nothing.
-use Rattle.std.proofs.Common.{◌≡◌, ℕ, zero, suc, ◌+◌, ◌*◌, ◌<◌, ◌≤◌, Bool, true, false, cond, not, ◌&&◌, ◌||◌, eqb, ltb, leb, ◌⊎◌, List, [], ◌∷◌, ◌++◌, length, sym, refl, ap, ◌∙◌, inl, inr, add-one, arith, length-append}
+use Rattle.std.proofs.Common.{◌≡◌, ℕ, zero, suc, ◌+◌, ◌*◌, ◌<◌, ◌≤◌, Bool, true, false, cond, not, ◌&&◌, ◌||◌, eqb, ltb, leb, ◌⊎◌, List, [], ◌∷◌, ◌++◌, length, sym, refl, ap, ◌∙◌, inl, inr, arith, length-append}
 use Rattle.std.proofs.lemmas.Bool.Decides.{nat_tests}
 use Rattle.std.proofs.lemmas.Bool.{eq-eqb, ne_eqb, lt-ltb, le-leb, lt-leb, cases_eq, cases_Bool, cases_lt}
-use Rattle.paging.specs.Pages.{bit, total, codes, Pages, with_page, without}
+use Rattle.paging.specs.Pages.{total, codes, Pages, with_page, without}
 use Rattle.paging.specs.Schedules.{Holding, pulled, pulls, releases}
 use Rattle.paging.proofs.Sums.{total_none, total_suc}
 use Rattle.pager.specs.Plans.{word, place_of, kind_of, code_in, less, words, moves, plan_words, kinds, replayed, PlansTell}

@@ -1,10 +1,9 @@
 -- The words of a plan, and words written over a list. Assumes nothing.
-use Rattle.std.proofs.Common.{◌≡◌, ℕ, zero, suc, ◌+◌, ◌-◌, ◌<◌, ◌≤◌, Bool, true, false, cond, List, [], ◌∷◌, ◌++◌, length, get_or, take, drop, set, sym, refl, ap, ◌∙◌, append_assoc, append-nil, add-zero, zero-add, add-one, arith, length-append, length-drop}
+use Rattle.std.proofs.Common.{◌≡◌, ℕ, zero, suc, ◌+◌, ◌-◌, ◌<◌, ◌≤◌, Bool, true, false, cond, List, [], ◌∷◌, ◌++◌, length, get_or, take, drop, set, sym, refl, ap, ◌∙◌, append_assoc, append-nil, add-zero, add-one, arith, length-append, length-drop}
 use Rattle.std.proofs.lemmas.List.{drop_more, drop-drop, take-append-drop, length-take-le, set_at, take_at, drop_at}
 use Rattle.paging.specs.Pages.{bit, total, Pages}
-use Rattle.paging.specs.Schedules.{Holding, pulled, pulls, releases}
-use Rattle.paging.proofs.Sums.{total_suc, total_none}
-use Rattle.pager.specs.Plans.{word, less, words, moves, plan_words, written}
+use Rattle.paging.specs.Schedules.{Holding}
+use Rattle.pager.specs.Plans.{word, words, moves, plan_words, written}
 
 -- one page more
 pub words_more : (p k : ℕ) (P : Pages) (n : ℕ) → words p k P (n + 1) ≡ words p k P n ++ cond (P n) (word p k n ∷ []) []

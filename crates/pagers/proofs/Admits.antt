@@ -1,7 +1,7 @@
 -- How many pages a reference in a ranking's own run pulls. Assumes nothing.
-use Rattle.std.proofs.Common.{◌≡◌, ℕ, ◌<◌, ◌≤◌, Bool, true, false, not, ◌&&◌, eqb, ◌⊎◌, ap, ◌∙◌, inl, inr}
+use Rattle.std.proofs.Common.{◌≡◌, ℕ, ◌<◌, ◌≤◌, true, false, not, eqb, ◌⊎◌, ap, ◌∙◌, inl, inr}
 use Rattle.std.proofs.lemmas.Bool.{cases_lt, and_parts}
-use Rattle.paging.specs.Pages.{codes, Pages, size, with_page, without}
+use Rattle.paging.specs.Pages.{codes, Pages, size, without}
 use Rattle.paging.specs.Schedules.{pulled}
 use Rattle.paging.specs.Rankings.{admit}
 use Rattle.paging.proofs.Sets.{none_pulled, one_pulled}

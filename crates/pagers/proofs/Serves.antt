@@ -1,8 +1,8 @@
 -- One serve, by the rows that a pager can be given. Assumes nothing.
-use Rattle.std.proofs.Common.{◌≡◌, ℕ, ◌<◌, List, [], ◌∷◌, length, get_or, drop, sym, refl, ap, ◌∙◌}
+use Rattle.std.proofs.Common.{◌≡◌, ℕ, ◌<◌, List, [], ◌∷◌, length, get_or, drop, sym, ap, ◌∙◌}
 use Rattle.std.proofs.lemmas.List.{drop_more, nil_from_length}
 use Rattle.paging.specs.Pages.{Pages}
-use Rattle.paging.specs.Models.{PagerModel, served, stepping}
+use Rattle.paging.specs.Models.{served, stepping}
 
 module _ {S : Type 0} (step : List ℕ → S → S) (held : S → Pages) (p q : S) (row : List ℕ) where
   -- the state moves by the step

@@ -4,7 +4,7 @@ use Rattle.paging.specs.Models.{PagerModel, stepping}
 use Rattle.paging.specs.Frames.{frames_of}
 use Rattle.paging.specs.Pages.{Pages}
 use Rattle.paging.specs.Sets.{pages}
-use Rattle.paging.specs.Rankings.{RankingModel, OwnRun, own_step, own_held}
+use Rattle.paging.specs.Rankings.{RankingModel, own_step, own_held}
 use Rattle.paging.specs.Policies.{fifo, dpmin}
 use Rattle.pagers.specs.Tables.{codes_of, queue}
 use Rattle.pagers.specs.declared.fifo.FifoPager.{FifoPager}

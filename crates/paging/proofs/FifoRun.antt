@@ -1,14 +1,14 @@
 -- FIFO's run: its queue stands by the places of the pulls, so the page that goes was pulled longest ago. Assumes nothing.
-use Rattle.std.proofs.Common.{◌≡◌, ℕ, zero, suc, ◌+◌, ◌<◌, ◌≤◌, Bool, true, false, cond, not, ◌&&◌, ◌||◌, eqb, ltb, leb, ◌⊎◌, List, [], ◌∷◌, ◌++◌, length, get_or, drop, sym, refl, ap, ◌∙◌, subst, inl, inr, arith, drop-cons}
+use Rattle.std.proofs.Common.{◌≡◌, ℕ, zero, suc, ◌<◌, ◌≤◌, Bool, true, false, cond, not, ◌&&◌, ◌||◌, eqb, ltb, leb, ◌⊎◌, List, [], ◌∷◌, ◌++◌, length, get_or, drop, sym, refl, ap, ◌∙◌, subst, inl, inr, arith, drop-cons}
 use mathlib.Core.Path.{fun_ext}
-use Rattle.std.proofs.lemmas.Bool.{eq-eqb, ne_eqb, eqb-true, ltb-true, le-leb, lt-leb, cases_eq, cases_Bool, cases_lt, and_parts, or_cases, not-true, both_ways}
+use Rattle.std.proofs.lemmas.Bool.{eq-eqb, ne_eqb, eqb-true, ltb-true, le-leb, lt-leb, cases_eq, cases_Bool, and_parts, or_cases, not-true, both_ways}
 use Rattle.paging.specs.Pages.{codes, Pages, size, with_page, without, has}
 use Rattle.paging.specs.Schedules.{Coded, Holding, pull_place}
 use Rattle.paging.specs.Models.{held_on}
 use Rattle.paging.specs.Policies.{fifo_step, fifo, Replaces, Demand, LongestHeld}
 use Rattle.paging.specs.Queues.{once, coded}
 use Rattle.paging.specs.Theorems.{FifoReleasesLongestHeld}
-use Rattle.paging.proofs.Queues.{has_push, has_rest, size_once, once_rest, once_in, coded_in, fifo_in, fifo_hit, fifo_miss, fifo_in_has}
+use Rattle.paging.proofs.Queues.{has_push, size_once, once_in, coded_in, fifo_in, fifo_hit, fifo_miss, fifo_in_has}
 use Rattle.paging.proofs.Models.{states, states_more, held_stepping}
 
 -- the keys rise along the list

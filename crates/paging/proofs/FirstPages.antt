@@ -1,7 +1,7 @@
 -- DPMIN at a fault holds the first pages of its order, as many as there are frames, or all if there are fewer. Assumes nothing.
-use Rattle.std.proofs.Common.{◌≡◌, ℕ, suc, ◌+◌, ◌<◌, ◌≤◌, min, Bool, true, false, not, ◌&&◌, eqb, ltb, ◌⊎◌, List, ◌∷◌, length, get_or, drop, sym, refl, ap, ◌∙◌, subst, inl, inr, arith, drop-cons}
-use Rattle.std.proofs.lemmas.Bool.{eq-eqb, ne_eqb, lt-ltb, ltb-true, ltb-false, cases_eq, cases_Bool, cases_lt, and_parts, and_from, both_ways, not-true, not-false, not_from_true, not_from_false}
-use Rattle.paging.specs.Pages.{bit, total, codes, Pages, size}
+use Rattle.std.proofs.Common.{◌≡◌, ℕ, suc, ◌+◌, ◌<◌, ◌≤◌, min, Bool, true, false, not, ◌&&◌, eqb, ltb, ◌⊎◌, List, ◌∷◌, get_or, drop, sym, refl, ap, ◌∙◌, subst, inl, inr, arith, drop-cons}
+use Rattle.std.proofs.lemmas.Bool.{eq-eqb, ne_eqb, lt-ltb, ltb-true, ltb-false, cases_eq, cases_Bool, cases_lt, and_parts, and_from, both_ways, not-true, not_from_false}
+use Rattle.paging.specs.Pages.{bit, codes, Pages, size}
 use Rattle.paging.specs.Schedules.{next}
 use Rattle.paging.specs.Models.{held_on}
 use Rattle.paging.specs.Rankings.{Order, hindmost}

@@ -1,5 +1,5 @@
 -- Pagers over a string, place by place. Assumes nothing.
-use Rattle.std.proofs.Common.{◌≡◌, ℕ, zero, suc, ◌+◌, ◌<◌, ◌≤◌, Bool, true, false, List, [], ◌∷◌, ◌++◌, length, get_or, drop, sym, refl, ap, ◌∙◌, subst, arith, drop-cons}
+use Rattle.std.proofs.Common.{◌≡◌, ℕ, zero, suc, ◌<◌, ◌≤◌, List, [], ◌∷◌, ◌++◌, length, get_or, drop, sym, refl, ap, ◌∙◌, subst, arith, drop-cons}
 use Rattle.paging.specs.Pages.{codes, Pages, size}
 use Rattle.paging.specs.Schedules.{Coded, Schedule, Prepages}
 use Rattle.paging.specs.Models.{PagerModel, served, Serve, Keeps, stepping, after, held_on}

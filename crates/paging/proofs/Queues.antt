@@ -1,10 +1,10 @@
 -- Lists of pages, and FIFO's queue of them. Assumes nothing.
-use Rattle.std.proofs.Common.{◌≡◌, ℕ, zero, suc, ◌+◌, ◌<◌, ◌≤◌, Bool, true, false, cond, not, ◌&&◌, ◌||◌, eqb, ltb, leb, ◌⊎◌, List, [], ◌∷◌, ◌++◌, length, get_or, drop, sym, refl, ap, ◌∙◌, inl, inr, arith, length-append, length-drop}
+use Rattle.std.proofs.Common.{◌≡◌, ℕ, ◌<◌, ◌≤◌, Bool, true, false, cond, not, ◌||◌, eqb, ltb, leb, ◌⊎◌, List, [], ◌∷◌, ◌++◌, length, drop, sym, refl, ap, ◌∙◌, inl, inr, arith, length-append, length-drop}
 use mathlib.Core.Path.{fun_ext}
-use Rattle.std.proofs.lemmas.Bool.{eq-eqb, ne_eqb, lt-ltb, ltb-true, le-leb, lt-leb, leb-true, leb-false, cases_eq, cases_Bool, cases_lt, and_parts, and_from, or_parts, or_from, not-true, not_from_false, both_ways}
-use Rattle.paging.specs.Pages.{bit, total, codes, Pages, nothing, size, with_page, has}
+use Rattle.std.proofs.lemmas.Bool.{eq-eqb, ne_eqb, lt-ltb, ltb-true, le-leb, lt-leb, cases_eq, cases_Bool, cases_lt, and_parts, and_from, or_parts, or_from, not-true, not_from_false, both_ways}
+use Rattle.paging.specs.Pages.{codes, Pages, size, with_page, has}
 use Rattle.paging.specs.Schedules.{pulled}
-use Rattle.paging.specs.Models.{Serve, Keeps, stepping}
+use Rattle.paging.specs.Models.{Serve, Keeps}
 use Rattle.paging.specs.Policies.{fifo_step, fifo}
 use Rattle.paging.specs.Queues.{once, coded}
 use Rattle.paging.proofs.Sets.{size_in, one_pulled}

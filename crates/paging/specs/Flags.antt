@@ -1,5 +1,5 @@
 -- The set of pages that a row of flags stands for. Assumes nothing.
-use Rattle.std.specs.Prelude.{ℕ, Bool, false, List, slice_index_or}
+use Rattle.std.specs.Prelude.{Bool, false, List, slice_index_or}
 use Rattle.paging.specs.Pages.{Pages}
 
 abbrev pub flagged : List Bool → Pages

@@ -1,5 +1,5 @@
 -- Strings of page references, and schedules of them. Assumes nothing.
-use Rattle.std.specs.Prelude.{◌≡◌, ℕ, zero, suc, ◌+◌, ◌<◌, ◌≤◌, Bool, true, cond, not, ◌&&◌, List, [], ◌∷◌, length, ◌==◌, slice_index}
+use Rattle.std.specs.Prelude.{◌≡◌, ℕ, zero, suc, ◌<◌, ◌≤◌, true, cond, not, ◌&&◌, List, [], ◌∷◌, length, ◌==◌, slice_index}
 use Rattle.paging.specs.Pages.{bit, total, codes, Pages, size}
 
 -- each reference of the string is to a page

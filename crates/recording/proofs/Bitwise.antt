@@ -1,7 +1,7 @@
 -- Numbers and their bits: each gives the other back.
-use Rattle.std.proofs.Common.{◌≡◌, ℕ, zero, suc, ◌+◌, ◌-◌, ◌*◌, ◌/◌, ◌%◌, ◌^◌, ◌<◌, ◌≤◌, List, [], ◌∷◌, ◌++◌, length, get_or, take, sym, refl, ap, ◌∙◌, suc-mul, pow-suc, add-one, arith, pow_mono}
+use Rattle.std.proofs.Common.{◌≡◌, ℕ, zero, suc, ◌+◌, ◌-◌, ◌*◌, ◌/◌, ◌^◌, ◌<◌, ◌≤◌, List, [], ◌∷◌, ◌++◌, length, take, refl, ap, ◌∙◌, suc-mul, pow-suc, add-one, arith, pow_mono}
 use Rattle.std.proofs.lemmas.List.{get_or-take}
-use Rattle.recording.specs.Bits.{bit_in, bit_of, number_at, numbers_at}
+use Rattle.recording.specs.Bits.{bit_of, number_at, numbers_at}
 
 pub number_none : (b : ℕ → ℕ) (i : ℕ) → 0 ≡ number_at b i 0
 unfolding number_at

@@ -1,5 +1,5 @@
 -- Names looked up one by one: what a list, its memory and the codes come to.
-use Rattle.std.proofs.Common.{◌≡◌, ℕ, suc, ◌+◌, ◌-◌, ◌*◌, ◌^◌, ◌<◌, ◌≤◌, Bool, true, false, cond, not, ◌||◌, ltb, ◌⊎◌, List, [], ◌∷◌, ◌++◌, map, length, take, drop, set, Ok, Err, Result, sym, refl, ap, ◌∙◌, ⊎_elim, add-mul, arith}
+use Rattle.std.proofs.Common.{◌≡◌, ℕ, suc, ◌+◌, ◌-◌, ◌*◌, ◌^◌, ◌<◌, ◌≤◌, Bool, true, false, cond, not, ◌||◌, ltb, List, [], ◌∷◌, ◌++◌, map, length, take, drop, set, Ok, Err, Result, sym, refl, ap, ◌∙◌, ⊎_elim, add-mul, arith}
 use Rattle.std.proofs.lemmas.List.{length-map, length-set, length-take-le, append_assoc, append-nil, drop_more, map_push, set_at, take_more_set}
 use Rattle.std.proofs.lemmas.Bool.{cases_Bool, cond-true, cond-false, and_right, and_parts, or_parts, le-ltb, ltb-true, ltb-false}
 use Rattle.paging.specs.declared.refusal.Refusal.{Refusal}

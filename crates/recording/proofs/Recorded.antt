@@ -1,14 +1,14 @@
 -- Bytes pass the questions about the layout exactly if they are the recording of a row of names.
-use Rattle.std.proofs.Common.{◌≡◌, ℕ, zero, suc, ◌+◌, ◌-◌, ◌*◌, ◌/◌, ◌%◌, ◌^◌, ◌<◌, ◌≤◌, Bool, true, false, cond, ◌&&◌, eqb, ltb, leb, ◌⊎◌, List, [], ◌∷◌, ◌++◌, length, get_or, Ok, Err, Result, sym, refl, ap, ◌∙◌, inl, inr, ⊎_elim, div-add-mod', arith}
+use Rattle.std.proofs.Common.{◌≡◌, ℕ, ◌+◌, ◌-◌, ◌*◌, ◌/◌, ◌%◌, ◌^◌, ◌<◌, ◌≤◌, Bool, true, false, ◌&&◌, eqb, leb, List, length, Ok, Err, Result, sym, refl, ap, ◌∙◌, ⊎_elim, div-add-mod', arith}
 use Rattle.std.proofs.lemmas.Nat.{div_below, le-div, mod_below}
 use Rattle.std.proofs.lemmas.List.{get_or_past}
-use Rattle.std.proofs.lemmas.Bool.{cases_Bool, cases_lt, cond-true, cond-false, and_parts, lt-ltb, le-ltb, le-leb, leb-true, eq-eqb, eqb-true}
+use Rattle.std.proofs.lemmas.Bool.{cases_lt, cond-true, cond-false, and_parts, lt-ltb, le-ltb, le-leb, leb-true, eq-eqb, eqb-true}
 use Rattle.recording.specs.declared.fault.LoadFault.{LoadFault}
 use Rattle.recording.specs.Bits.{bit_in, bit_of, number_at, numbers_at}
 use Rattle.recording.specs.Reading.{asked, and_then, marked, counted, head, body, bytes_for, spare, laid_out}
 use Rattle.recording.specs.Coding.{names_in}
 use Rattle.recording.specs.Writing.{front_number, recording_bit, recording}
-use Rattle.recording.specs.Standing.{Below, Row, Laid}
+use Rattle.recording.specs.Standing.{Below, Laid}
 use Rattle.recording.proofs.Bitwise.{number_below, bit_below, number_same, length_numbers}
 use Rattle.recording.proofs.Written.{zero_bit, recording_bit_below}
 use Rattle.recording.proofs.Rows.{bit_of_number, number_of_bits, number_zero, number_24, getd_numbers, numbers_same, row_of_bits, bits_of_row}

@@ -1,7 +1,7 @@
 -- What was loaded is stored as the same bytes, and what was stored is loaded as the same names.
 use Rattle.std.proofs.Common.{◌≡◌, ℕ, ◌^◌, ◌<◌, ◌≤◌, true, List, length, get_or, sym, ap, ◌∙◌, arith}
 use Rattle.std.proofs.lemmas.List.{length-map, get_or-map}
-use Rattle.recording.specs.Coding.{names_of, names_in}
+use Rattle.recording.specs.Coding.{names_in}
 use Rattle.recording.specs.Writing.{recording, named_by, all_named}
 use Rattle.recording.specs.Standing.{Below, StoredAsLoaded, LoadedAsStored}
 use Rattle.recording.proofs.Recorded.{laid}

@@ -1,7 +1,7 @@
 -- The bits of a recording, as the code makes them.
-use Rattle.std.proofs.Common.{◌≡◌, ℕ, zero, suc, ◌+◌, ◌-◌, ◌*◌, ◌/◌, ◌%◌, ◌^◌, ◌<◌, ◌≤◌, Bool, true, false, cond, ◌&&◌, ltb, List, [], ◌∷◌, ◌++◌, map, length, get_or, drop, set, Ok, Err, Result, sym, refl, ap, ◌∙◌, add-one, arith}
+use Rattle.std.proofs.Common.{◌≡◌, ℕ, zero, suc, ◌+◌, ◌-◌, ◌*◌, ◌/◌, ◌%◌, ◌^◌, ◌<◌, ◌≤◌, Bool, true, false, ◌&&◌, ltb, List, [], ◌∷◌, ◌++◌, map, length, get_or, drop, set, Ok, Err, sym, refl, ap, ◌∙◌, add-one, arith}
 use native.Mathlib.Nat.{zero-div}
-use Rattle.std.proofs.lemmas.List.{at_drop_more, at_drop_all, length-map, get_or-map, get_or_past, get_or_read}
+use Rattle.std.proofs.lemmas.List.{at_drop_more, at_drop_all, length-map, get_or-map, get_or_past}
 use Rattle.std.proofs.lemmas.Bool.{cond-true, cond-false, cond_both, and_left, and_parts, lt-ltb, le-ltb, ltb-true}
 use Rattle.paging.specs.declared.refusal.Refusal.TheVariants.{CodeWithoutName, OutputTooShort}
 use Rattle.recording.specs.Bits.{bit_in, bit_of, number_at, numbers_at}

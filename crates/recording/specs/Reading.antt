@@ -2,7 +2,6 @@
 use Rattle.std.specs.Prelude.{ℕ, ◌+◌, ◌-◌, ◌*◌, ◌/◌, min, Bool, cond, ◌&&◌, List, length, Ok, Err, Result, ◌==◌, nat_le}
 use Rattle.paging.specs.declared.refusal.Refusal.{Refusal}
 use Rattle.paging.specs.declared.refusal.Refusal.TheVariants.{TooShort, BadHeader, TooManyReferences, WrongLength, SpareBitsSet}
-use Rattle.recording.specs.declared.fault.Layer.{Layer}
 use Rattle.recording.specs.declared.fault.Layer.TheVariants.{Bytes, Names}
 use Rattle.recording.specs.declared.fault.LoadFault.{LoadFault}
 use Rattle.recording.specs.Bits.{bit_of, number_at}

@@ -1,4 +1,4 @@
-use Rattle.std.proofs.Common.{◌≡◌, ℕ, List, length, ap, ◌∙◌, arith}
+use Rattle.std.proofs.Common.{ℕ, List, length, ap, ◌∙◌, arith}
 use Rattle.evaluator.specs.Answers.{write_answer, written}
 use Rattle.evaluator.specs.Strings.{string}
 use Rattle.listing.proofs.Answered.{accepted, refused, some_text}

@@ -1,5 +1,4 @@
-use Rattle.std.proofs.Common.{◌≡◌, ℕ, List, Ok, Result, sym, ap, ◌∙◌}
-use Rattle.paging.specs.declared.policy.Policy.{Policy}
+use Rattle.std.proofs.Common.{◌≡◌, ℕ, List, Ok, sym, ap, ◌∙◌}
 use Rattle.paging.specs.declared.policy.Policy.TheVariants.{Lru, Min, Dpmin}
 use Rattle.paging.specs.Rankings.{RankingModel}
 use Rattle.ranking.specs.Edges.{edge, at_count}

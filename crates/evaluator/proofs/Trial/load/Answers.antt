@@ -1,7 +1,7 @@
-use Rattle.std.proofs.Common.{◌≡◌, ℕ, cond, length, is_ok, Ok, Err, Result, sym, ap, ◌∙◌, arith}
+use Rattle.std.proofs.Common.{◌≡◌, ℕ, cond, length, is_ok, Err, Result, sym, ap, ◌∙◌, arith}
 use Rattle.std.proofs.lemmas.Result.{err_from_is_err_and}
 use Rattle.recording.specs.declared.fault.LoadFault.{LoadFault}
-use Rattle.recording.specs.Coding.{decoded, names_of, names_recorded}
+use Rattle.recording.specs.Coding.{names_of, names_recorded}
 use Rattle.names.specs.Lists.{limit_of}
 use Rattle.evaluator.specs.Histories.{loaded}
 use Rattle.evaluator.proofs.Loads.{refused_string, loaded_few}

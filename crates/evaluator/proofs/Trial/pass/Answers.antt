@@ -1,8 +1,7 @@
-use Rattle.std.proofs.Common.{◌≡◌, ℕ, true, leb, List, ◌++◌, length, drop, sym, refl, ap, ◌∙◌}
+use Rattle.std.proofs.Common.{◌≡◌, ℕ, true, leb, List, ◌++◌, length, drop, sym, ap, ◌∙◌}
 use Rattle.std.proofs.lemmas.Bool.{le-leb, cond-true}
-use Rattle.paging.specs.Rankings.{RankingModel, told_all, tellings}
+use Rattle.paging.specs.Rankings.{told_all, tellings}
 use Rattle.ranking.specs.Stack.{pass_row}
-use Rattle.evaluator.specs.Answers.{pass_leaves, pass_writes, write_answer}
 use Rattle.evaluator.specs.Strings.{string}
 use Rattle.evaluator.proofs.Trial.pass.Goals as goal
 

@@ -1,5 +1,5 @@
 use Rattle.std.proofs.Common.{rules}
-use Rattle.std.proofs.lemmas.List.{take_more_set, length-take-le, length-take}
+use Rattle.std.proofs.lemmas.List.{take_more_set, length-take-le}
 use Rattle.evaluator.proofs.Trial.put.Goals as goal
 
 pub returns : goal.returns

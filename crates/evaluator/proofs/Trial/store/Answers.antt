@@ -1,4 +1,4 @@
-use Rattle.std.proofs.Common.{◌≡◌, ℕ, ◌≤◌, List, length, sym, ap, ◌∙◌, subst}
+use Rattle.std.proofs.Common.{◌≡◌, ℕ, ◌≤◌, List, length, ap, ◌∙◌, subst}
 use Rattle.names.specs.Lists.{in_list, listed}
 use Rattle.recording.specs.Writing.{encoded, named_by, recording, written}
 use Rattle.evaluator.specs.Strings.{string}

@@ -1,5 +1,5 @@
 use Rattle.std.proofs.Common.{rules}
-use Rattle.std.proofs.lemmas.List.{take-take, length-take, length-take-le}
+use Rattle.std.proofs.lemmas.List.{take-take, length-take}
 use Rattle.evaluator.proofs.Trial.take_back.Goals as goal
 
 pub returns : goal.returns

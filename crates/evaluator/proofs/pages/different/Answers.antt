@@ -1,8 +1,7 @@
-use Rattle.std.proofs.Common.{◌≡◌, ℕ, ◌+◌, Bool, true, false, ◌||◌, eqb, List, [], ◌∷◌, ◌++◌, length, get_or, take, sym, refl, ap, ◌∙◌, arith}
+use Rattle.std.proofs.Common.{◌≡◌, ℕ, Bool, true, false, ◌||◌, eqb, List, [], ◌∷◌, ◌++◌, get_or, take, sym, refl, ap, ◌∙◌}
 use mathlib.Core.Path.{fun_ext}
 use Rattle.std.proofs.lemmas.List.{take_more, take_all}
-use Rattle.paging.specs.Pages.{Pages, has, size, with_page}
-use Rattle.paging.specs.Sets.{pages}
+use Rattle.paging.specs.Pages.{has, size, with_page}
 use Rattle.paging.proofs.Queues.{has_append}
 use Rattle.evaluator.proofs.pages.different.Goals as goal
 

@@ -1,5 +1,5 @@
 use Rattle.std.proofs.Common.{◌≡◌, ℕ, [], length, ap, ◌∙◌, arith}
-use Rattle.paging.specs.Models.{PagerModel, after, held_on, pulls_on}
+use Rattle.paging.specs.Models.{PagerModel, held_on, pulls_on}
 use Rattle.paging.specs.Pages.{size}
 use Rattle.paging.proofs.Balance.{pulls_balance}
 use Rattle.pager.proofs.Replays.{plan_long}

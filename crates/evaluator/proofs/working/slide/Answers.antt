@@ -1,5 +1,5 @@
-use Rattle.std.proofs.Common.{◌≡◌, ℕ, ◌-◌, get_or, sym, ap, ◌∙◌, arith}
-use Rattle.paging.specs.Pages.{Pages, with_page, without}
+use Rattle.std.proofs.Common.{◌-◌, get_or, sym, ap, ◌∙◌, arith}
+use Rattle.paging.specs.Pages.{Pages, without}
 use Rattle.paging.specs.Sets.{pages}
 use Rattle.evaluator.proofs.Windows.{slide_short, slide_stays, slide_goes}
 use Rattle.evaluator.proofs.working.slide.Goals as goal

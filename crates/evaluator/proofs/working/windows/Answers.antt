@@ -1,12 +1,12 @@
-use Rattle.std.proofs.Common.{◌≡◌, ℕ, suc, ◌+◌, ◌-◌, ◌*◌, ◌≤◌, false, not, List, [], length, get_or, replicate, sym, refl, ap, ◌∙◌, arith, length-set}
+use Rattle.std.proofs.Common.{◌≡◌, ℕ, suc, ◌+◌, ◌-◌, ◌≤◌, not, List, [], get_or, sym, refl, ap, ◌∙◌, arith, length-set}
 use Rattle.std.proofs.lemmas.List.{get_or-replicate, drop_all}
-use Rattle.paging.specs.Pages.{Pages, bit, size, has, codes}
+use Rattle.paging.specs.Pages.{Pages, bit, size, has}
 use Rattle.paging.specs.Schedules.{faults}
 use Rattle.paging.specs.Sets.{pages}
 use Rattle.paging.proofs.Sums.{total_none}
 use Rattle.paging.proofs.Sets.{size_most}
-use Rattle.evaluator.specs.WorkingSets.{working_set, sizes_to, Windowed}
-use Rattle.evaluator.proofs.Windows.{latest_none, latest_has, latest_set, missing_more, sizes_more}
+use Rattle.evaluator.specs.WorkingSets.{working_set}
+use Rattle.evaluator.proofs.Windows.{latest_none, latest_set, missing_more, sizes_more}
 use Rattle.evaluator.proofs.working.windows.Goals as goal
 use Rattle.evaluator.proofs.working.windows.Goals.{then-not-contains, else-not-contains}
 

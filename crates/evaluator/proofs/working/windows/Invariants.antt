@@ -1,4 +1,4 @@
-use Rattle.std.proofs.Common.{◌≡◌, ℕ, ◌*◌, ◌≤◌, length}
+use Rattle.std.proofs.Common.{◌≡◌, ◌*◌, ◌≤◌, length}
 use Rattle.paging.specs.Schedules.{faults}
 use Rattle.paging.specs.Sets.{pages}
 use Rattle.evaluator.specs.WorkingSets.{Windowed, Latest, working_set, sizes_to}

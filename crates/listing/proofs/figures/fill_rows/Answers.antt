@@ -1,8 +1,6 @@
-use Rattle.std.proofs.Common.{◌≡◌, ℕ, ◌+◌, ◌<◌, ◌≤◌, ◌≢◌, length, get_or, replicate, Ok, sym, refl, ap, ◌∙◌, arith}
+use Rattle.std.proofs.Common.{◌≡◌, ℕ, ◌+◌, ◌<◌, length, replicate, Ok, refl, ap, ◌∙◌, arith}
 use Rattle.std.proofs.lemmas.List.FromFn.{fill_by_all}
 use Rattle.std.proofs.lemmas.List.Edits.{fill_by_more}
-use Rattle.paging.specs.declared.policy.Policy.TheVariants.{Lru, Min, Dpmin}
-use Rattle.paging.specs.Policies.{instants, pulls_of}
 use Rattle.paging.specs.Rankings.{last_told, next_told, untold}
 use Rattle.ranking.specs.Tables.{last_order, next_order}
 use Rattle.evaluator.specs.Strings.{string}

@@ -1,7 +1,6 @@
-use Rattle.std.proofs.Common.{◌≡◌, ℕ, List, length, replicate, refl, ap, ◌∙◌, arith}
+use Rattle.std.proofs.Common.{ℕ, length, replicate, refl, ap, ◌∙◌, arith}
 use Rattle.evaluator.specs.Answers.{write_answer, written}
 use Rattle.evaluator.specs.Strings.{string, page_count}
-use Rattle.listing.specs.declared.text.Row.{Row}
 use Rattle.listing.specs.Listings.{table_text, rows_of}
 use Rattle.listing.proofs.Rows.{first_rows}
 use Rattle.listing.proofs.Tables.{no_row}

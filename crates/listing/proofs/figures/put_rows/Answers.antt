@@ -1,4 +1,4 @@
-use Rattle.std.proofs.Common.{◌≡◌, List, length, ap, ◌∙◌, arith}
+use Rattle.std.proofs.Common.{List, length, ap, ◌∙◌, arith}
 use Rattle.evaluator.specs.Answers.{write_answer, written}
 use Rattle.listing.specs.declared.text.Row.{Row}
 use Rattle.listing.specs.Listings.{table_text}

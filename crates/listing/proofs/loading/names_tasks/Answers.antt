@@ -1,4 +1,4 @@
-use Rattle.std.proofs.Common.{◌≡◌, ℕ, eqb, sym, ap, arith}
+use Rattle.std.proofs.Common.{ℕ, eqb, sym, ap}
 use Rattle.listing.proofs.KindBits.{kind_bits, no_kind}
 use Rattle.listing.proofs.loading.names_tasks.Goals as goal
 

@@ -1,4 +1,4 @@
-use Rattle.std.proofs.Common.{◌≡◌, ℕ, List, ◌++◌, length, decimal, refl, ap, arith}
+use Rattle.std.proofs.Common.{◌≡◌, ℕ, ◌++◌, length, decimal, refl, ap, arith}
 use Rattle.std.proofs.lemmas.List.{length-append, length_push}
 use Rattle.paging.specs.Refusals.{number}
 use Rattle.recording.specs.declared.fault.Layer.{Layer}

@@ -1,4 +1,4 @@
-use Rattle.std.proofs.Common.{◌≡◌, ℕ, ◌+◌, ◌<◌, ◌≤◌, List, ◌++◌, length, codes, sym, ap, subst, arith}
+use Rattle.std.proofs.Common.{◌≡◌, ℕ, ◌+◌, ◌<◌, ◌≤◌, List, ◌++◌, length, codes, ap, subst, arith}
 use Rattle.paging.specs.Refusals.{number}
 use Rattle.recording.specs.declared.fault.LoadFault.{LoadFault}
 use Rattle.listing.specs.Texts.{Wrote, field}

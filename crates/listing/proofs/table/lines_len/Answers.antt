@@ -1,7 +1,6 @@
-use Rattle.std.proofs.Common.{◌≡◌, ℕ, ◌+◌, List, length, get_or, take, sym, ap, ◌∙◌, arith}
+use Rattle.std.proofs.Common.{ℕ, ◌+◌, List, length, take, sym, ap, ◌∙◌, arith}
 use Rattle.std.proofs.lemmas.List.{length-append, take_all}
 use Rattle.listing.specs.declared.text.Row.{Row}
-use Rattle.listing.specs.Texts.{row_text}
 use Rattle.listing.specs.Listings.{lines}
 use Rattle.listing.proofs.Tables.{lines_none, lines_more}
 use Rattle.listing.proofs.table.lines_len.Goals as goal

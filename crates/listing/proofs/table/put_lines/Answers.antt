@@ -1,9 +1,9 @@
-use Rattle.std.proofs.Common.{◌≡◌, ℕ, ◌+◌, ◌≤◌, List, length, get_or, take, sym, ap, ◌∙◌, subst, arith}
+use Rattle.std.proofs.Common.{◌+◌, List, length, get_or, take, ap, subst, arith}
 use Rattle.std.proofs.lemmas.List.{take_all}
 use Rattle.listing.specs.declared.text.Row.{Row}
 use Rattle.listing.specs.Texts.{Wrote, row_text}
 use Rattle.listing.specs.Listings.{lines}
-use Rattle.listing.proofs.Overlays.{wrote_more, wrote_none, room_front, room_back}
+use Rattle.listing.proofs.Overlays.{wrote_more, wrote_none, room_back}
 use Rattle.listing.proofs.Tables.{no_row, lines_none, lines_more, lines_front}
 use Rattle.listing.proofs.table.put_lines.Goals as goal
 

@@ -1,7 +1,6 @@
-use Rattle.std.proofs.Common.{◌+◌, ◌<◌, ◌≤◌, length, arith}
-use Rattle.listing.specs.Texts.{Wrote}
+use Rattle.std.proofs.Common.{◌<◌, ◌≤◌, length, arith}
 use Rattle.listing.specs.Listings.{header, lines, table_text}
-use Rattle.listing.proofs.Overlays.{wrote_more, room_front, room_back}
+use Rattle.listing.proofs.Overlays.{wrote_more, room_back}
 use Rattle.listing.proofs.Tables.{at_front, end_front, none_written, none_fits}
 use Rattle.listing.proofs.table.put_table.Goals as goal
 

@@ -1,4 +1,4 @@
-use Rattle.std.proofs.Common.{◌^◌, ◌<◌, arith, rules}
+use Rattle.std.proofs.Common.{arith, rules}
 use Rattle.listing.proofs.Overlays.{length_one, length_more, overlay_one, overlay_step}
 use Rattle.listing.proofs.text.+put_digits.Goals as goal
 

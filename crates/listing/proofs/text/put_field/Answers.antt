@@ -1,4 +1,4 @@
-use Rattle.std.proofs.Common.{◌≡◌, ◌+◌, ◌≤◌, [], ◌∷◌, length, set, decimal, sym, ap, ◌∙◌, arith, rules}
+use Rattle.std.proofs.Common.{length, set, decimal, ap, ◌∙◌, arith}
 use Rattle.std.proofs.lemmas.List.{length_push}
 use Rattle.listing.proofs.Overlays.{length_overlay, overlay_push}
 use Rattle.listing.proofs.text.put_field.Goals as goal

@@ -1,5 +1,5 @@
 -- A look-up in the memory: a known name, a new one without a place, and a new one.
-use Rattle.std.proofs.Common.{◌≡◌, ◌≤◌, length, ◌∙◌, ⊎_elim, arith}
+use Rattle.std.proofs.Common.{◌≡◌, ◌≤◌, length, ⊎_elim, arith}
 use Rattle.names.specs.Lists.{held, limit_of}
 use Rattle.names.proofs.Places.{looks_known, looks_full, looks_new}
 use Rattle.names.proofs.list.look_in.Goals as goal

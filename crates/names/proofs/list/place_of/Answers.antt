@@ -1,5 +1,5 @@
 -- A turn passes one name, or ends at it.
-use Rattle.std.proofs.Common.{◌≡◌, true, false, sym, ◌∙◌, arith}
+use Rattle.std.proofs.Common.{sym, ◌∙◌, arith}
 use Rattle.names.proofs.Places.{place_here, place_past, place_end}
 use Rattle.names.proofs.list.place_of.Goals as goal
 

@@ -1,13 +1,13 @@
 -- The moves of one place more. Assumes nothing.
-use Rattle.std.proofs.Common.{◌≡◌, ℕ, ◌+◌, ◌≤◌, List, [], length, sym, refl, ap, ◌∙◌, arith}
-use Rattle.paging.specs.Models.{after, held_on}
+use Rattle.std.proofs.Common.{◌≡◌, [], length, sym, refl, ap, ◌∙◌, arith}
+use Rattle.paging.specs.Models.{held_on}
 use Rattle.paging.specs.Pages.{size}
 use Rattle.paging.specs.Schedules.{pulled}
 use Rattle.paging.specs.Sets.{pages}
-use Rattle.pager.specs.Plans.{moves, plan_words, written}
+use Rattle.pager.specs.Plans.{written}
 use Rattle.pager.proofs.Places.{after_step}
 use Rattle.pager.proofs.Words.{plan_none, written_none}
-use Rattle.pager.proofs.Planned.{clip, plan_room, plan_count, plan_wrote, plan_still, nothing_moved, clip_same, clip_size}
+use Rattle.pager.proofs.Planned.{plan_room, plan_count, plan_wrote, plan_still, nothing_moved, clip_same, clip_size}
 use Rattle.pager.proofs.plans.plan.Goals as goal
 use Rattle.pager.proofs.plans.plan.Goals.{then-pulls-gt0, else-pulls-gt0+else-held-were}
 

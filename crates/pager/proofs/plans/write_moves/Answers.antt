@@ -1,8 +1,8 @@
 -- The releases, and then the pulls. Assumes nothing.
-use Rattle.std.proofs.Common.{◌≡◌, ℕ, ◌+◌, ◌≤◌, List, ◌++◌, length, sym, refl, ap, ◌∙◌, arith, length-append}
+use Rattle.std.proofs.Common.{ℕ, List, length, ap, ◌∙◌, arith, length-append}
 use Rattle.paging.specs.Pages.{codes}
 use Rattle.paging.specs.Sets.{pages}
-use Rattle.pager.specs.Plans.{less, words, moves, written}
+use Rattle.pager.specs.Plans.{less, words, written}
 use Rattle.pager.proofs.Words.{written_both, written_long}
 use Rattle.pager.proofs.plans.write_moves.Goals as goal
 

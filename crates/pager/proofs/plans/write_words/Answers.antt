@@ -1,5 +1,5 @@
 -- One code more. Assumes nothing.
-use Rattle.std.proofs.Common.{◌≡◌, ℕ, ◌+◌, ◌<◌, List, [], ◌∷◌, length, set, sym, refl, ap, ◌∙◌, arith, length-append, rules}
+use Rattle.std.proofs.Common.{◌≡◌, ℕ, ◌+◌, ◌<◌, List, [], ◌∷◌, length, set, sym, ap, ◌∙◌, arith, length-append, rules}
 use Rattle.paging.specs.Pages.{codes}
 use Rattle.paging.specs.Sets.{pages}
 use Rattle.pager.specs.Plans.{word, less, words, written}

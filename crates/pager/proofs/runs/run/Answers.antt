@@ -1,5 +1,5 @@
 -- What a run counts at each place. Assumes nothing.
-use Rattle.std.proofs.Common.{◌≡◌, suc, ◌+◌, ◌≤◌, not, [], get_or, sym, refl, ap, ◌∙◌, arith}
+use Rattle.std.proofs.Common.{◌≡◌, suc, ◌+◌, not, [], get_or, sym, refl, ◌∙◌, arith}
 use Rattle.paging.specs.Pages.{bit}
 use Rattle.paging.specs.Schedules.{pulled}
 use Rattle.paging.specs.Models.{held_on}

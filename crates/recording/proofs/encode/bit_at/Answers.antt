@@ -1,5 +1,5 @@
 -- A bit of the front, of a name, or behind them.
-use Rattle.std.proofs.Common.{◌-◌, ◌/◌, ◌<◌, map, length, get_or, sym, ap, ◌∙◌, arith}
+use Rattle.std.proofs.Common.{◌-◌, ◌/◌, map, length, sym, ap, ◌∙◌, arith}
 use Rattle.std.proofs.lemmas.List.{get_or-map}
 use Rattle.recording.proofs.Written.{named_below, bit_front, bit_behind, bit_name}
 use Rattle.recording.proofs.encode.bit_at.Goals as goal

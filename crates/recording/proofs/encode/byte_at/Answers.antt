@@ -1,5 +1,5 @@
 -- Each turn adds one bit.
-use Rattle.std.proofs.Common.{◌≡◌, ◌+◌, ◌*◌, ◌<◌, sym, ap, ◌∙◌, arith}
+use Rattle.std.proofs.Common.{◌+◌, ◌*◌, ◌<◌, ap, ◌∙◌, arith}
 use Rattle.recording.proofs.Bitwise.{number_none, number_more, bit_more}
 use Rattle.recording.proofs.Written.{recording_bit_below}
 use Rattle.recording.proofs.encode.byte_at.Goals as goal

@@ -1,5 +1,5 @@
 -- The four numbers taken are those of the first three bytes.
-use Rattle.std.proofs.Common.{◌+◌, Ok, Err, sym, refl, ap, ◌∙◌, inl, inr, arith}
+use Rattle.std.proofs.Common.{◌+◌, Err, sym, refl, ap, ◌∙◌, inl, inr, arith}
 use Rattle.recording.proofs.Layouts.{Front, front_ok, moved_on, head_unmarked, head_many, head_counted}
 use Rattle.recording.proofs.layout.header.Goals as goal
 use Rattle.recording.proofs.layout.header.Goals.{In_ok-count, then-version-ne1-via-then-version-ne1, then-version-ne1-via-else-version-ne1+then-own_kind-kind, then-version-ne1-via-else-version-ne1+else-own_kind-kind+then-zero-ne0}

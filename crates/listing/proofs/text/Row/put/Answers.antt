@@ -1,4 +1,4 @@
-use Rattle.std.proofs.Common.{List, ◌++◌}
+use Rattle.std.proofs.Common.{◌++◌}
 use Rattle.listing.specs.Texts.{field}
 use Rattle.listing.proofs.Overlays.{wrote_more, room_front, room_back}
 use Rattle.listing.proofs.text.Row.put.Goals as goal

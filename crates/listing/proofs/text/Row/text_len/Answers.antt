@@ -1,4 +1,4 @@
-use Rattle.std.proofs.Common.{List, ◌++◌, decimal, arith}
+use Rattle.std.proofs.Common.{◌++◌, decimal, arith}
 use Rattle.std.proofs.lemmas.List.{length-append, length_push}
 use Rattle.listing.specs.Texts.{field}
 use Rattle.listing.proofs.text.Row.text_len.Goals as goal

@@ -1,12 +1,11 @@
 -- The queue after a pull. Assumes nothing.
-use Rattle.std.proofs.Common.{◌≡◌, ℕ, true, List, [], length, set, sym, refl, ap, ◌∙◌, subst, arith, length-set}
+use Rattle.std.proofs.Common.{◌≡◌, ℕ, List, [], length, set, sym, refl, ap, ◌∙◌, arith, length-set}
 use Rattle.std.proofs.lemmas.List.{map-set}
 use Rattle.paging.specs.Queues.{once, coded}
 use Rattle.paging.proofs.Queues.{fifo_in, fifo_miss, once_in, coded_in}
 use Rattle.pagers.specs.Tables.{codes_of, code_of, queue}
 use Rattle.pagers.specs.Pagers.{queue_of}
 use Rattle.pagers.specs.declared.fifo.Frame.{Frame}
-use Rattle.pagers.specs.declared.fifo.FifoPager.{FifoPager}
 use Rattle.pagers.specs.Hands.{queue_pull, hand_on}
 use Rattle.pagers.proofs.fifo.FifoPager.pull.Goals as goal
 

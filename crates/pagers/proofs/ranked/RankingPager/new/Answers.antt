@@ -1,6 +1,6 @@
 -- Nothing is held. Assumes nothing.
-use Rattle.std.proofs.Common.{refl, ap, arith}
-use Rattle.paging.specs.Pages.{Pages, size}
+use Rattle.std.proofs.Common.{ap, arith}
+use Rattle.paging.specs.Pages.{size}
 use Rattle.paging.proofs.Sets.{size_nothing}
 use Rattle.pagers.proofs.ranked.RankingPager.new.Goals as goal
 

@@ -1,7 +1,7 @@
 -- One page more. Assumes nothing.
 use Rattle.std.proofs.Common.{arith, length-set}
 use Rattle.paging.specs.Flags.{flagged}
-use Rattle.paging.proofs.Sets.{size_most, count_in, flagged_in, with_same}
+use Rattle.paging.proofs.Sets.{size_most, count_in}
 use Rattle.paging.proofs.set.PageSet.insert.Goals as goal
 
 pub overflow_add-self : goal.overflow_add-self

@@ -1,7 +1,5 @@
 -- One page less. Assumes nothing.
-use Rattle.std.proofs.Common.{◌≡◌, ◌+◌, false, set, arith, length-set}
-use Rattle.paging.specs.Pages.{size}
-use Rattle.paging.specs.Flags.{flagged}
+use Rattle.std.proofs.Common.{arith, length-set}
 use Rattle.paging.proofs.Sets.{count_out}
 use Rattle.paging.proofs.set.PageSet.remove.Goals as goal
 

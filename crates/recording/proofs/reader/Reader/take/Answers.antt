@@ -1,5 +1,5 @@
 -- Each turn reads one bit.
-use Rattle.std.proofs.Common.{◌+◌, ◌*◌, ◌/◌, ◌%◌, ◌^◌, ◌<◌, arith}
+use Rattle.std.proofs.Common.{◌+◌, ◌*◌, arith}
 use Rattle.recording.specs.Bits.{bit_of}
 use Rattle.recording.proofs.Bitwise.{number_none, number_more, bit_more, fits_16}
 use Rattle.recording.proofs.reader.Reader.take.Goals as goal

@@ -1,10 +1,9 @@
 -- What DPMIN does with a row. Assumes nothing.
-use Rattle.std.proofs.Common.{◌≡◌, ℕ, true, false, List, [], ◌∷◌, get_or, drop, sym, refl, ap, ◌∙◌, arith}
+use Rattle.std.proofs.Common.{◌≡◌, ℕ, false, List, ◌∷◌, get_or, drop, sym, refl, ap, ◌∙◌, arith}
 use Rattle.std.proofs.lemmas.List.{drop_more}
-use Rattle.paging.specs.Pages.{Pages}
 use Rattle.paging.specs.Frames.{frames_of}
 use Rattle.paging.specs.Sets.{pages}
-use Rattle.paging.specs.Policies.{dpmin_step, dpmin, itself, foremost}
+use Rattle.paging.specs.Policies.{dpmin_step, itself, foremost}
 use Rattle.paging.proofs.Sets.{none_pulled}
 use Rattle.paging.proofs.Foremost.{dpmin_hit, dpmin_fault}
 use Rattle.pagers.proofs.Serves.{stepped_none, stepped_first}

@@ -1,8 +1,7 @@
 -- What FIFO does with a row. Assumes nothing.
-use Rattle.std.proofs.Common.{◌≡◌, ℕ, true, false, List, [], ◌∷◌, get_or, drop, sym, refl, ap, ◌∙◌, arith}
+use Rattle.std.proofs.Common.{◌≡◌, ℕ, false, List, [], get_or, drop, sym, refl, ap, ◌∙◌, arith}
 use Rattle.paging.specs.Pages.{has}
 use Rattle.paging.specs.Schedules.{pulled}
-use Rattle.paging.specs.Models.{PagerModel, served, stepping}
 use Rattle.paging.specs.Policies.{fifo_step, fifo}
 use Rattle.paging.proofs.Sets.{none_pulled}
 use Rattle.paging.proofs.Queues.{fifo_in, fifo_hit, fifo_miss, fifo_in_pulled}

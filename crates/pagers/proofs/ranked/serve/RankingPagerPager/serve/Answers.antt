@@ -1,10 +1,10 @@
 -- What a ranking's pager does with a row. Assumes nothing.
-use Rattle.std.proofs.Common.{◌≡◌, sym, refl, ap, ◌∙◌}
+use Rattle.std.proofs.Common.{sym, refl}
 use Rattle.paging.specs.Frames.{frames_of}
 use Rattle.paging.specs.Sets.{pages}
 use Rattle.paging.specs.Rankings.{OwnRun, own_step, own_held}
 use Rattle.paging.proofs.Sets.{none_pulled}
-use Rattle.pagers.proofs.Serves.{stepped_none, stepped_first}
+use Rattle.pagers.proofs.Serves.{stepped_none}
 use Rattle.pagers.proofs.ranked.serve.RankingPagerPager.serve.Goals as goal
 
 pub returns-then-row-eq0 : goal.returns-then-row-eq0
