@@ -8,11 +8,15 @@ use Rattle.paging.specs.Rankings.{hindmost}
 use Rattle.pager.specs.Plans.{words, plan_words}
 use Rattle.ranking.specs.Edges.{edge_from}
 use Rattle.recording.specs.Bits.{number_at, numbers_at}
-use Rattle.recording.specs.Coding.{coded}
+use Rattle.recording.specs.Coding.{coded, decoded}
 use Rattle.evaluator.specs.Answers.{figures_answer, edge_answer, plan_of}
 use Rattle.evaluator.specs.Histories.{load_string}
 use Rattle.evaluator.specs.WorkingSets.{working_answer}
 use Rattle.evaluator.specs.Examples.{recorded, S, Row, EmptyString, moves_of_s, WorkedExamples}
+
+loaded_is : decoded 0 12 256 recorded ≡ Ok 12
+unfolding number_at numbers_at coded
+loaded_is = refl
 
 string_is : load_string 0 12 256 recorded ≡ S
 unfolding number_at numbers_at coded
@@ -68,6 +72,7 @@ window_is = refl
 pub worked_examples : WorkedExamples
 worked_examples =
     record {
+      loaded = loaded_is;
       string = string_is;
       one = one;
       two = two;

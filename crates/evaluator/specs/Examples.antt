@@ -4,6 +4,7 @@ use Rattle.paging.specs.declared.policy.Policy.TheVariants.{Dpmin}
 use Rattle.paging.specs.declared.refusal.Refusal.TheVariants.{NoFrameCountWithin}
 use Rattle.paging.specs.Frames.{is_frames}
 use Rattle.pager.specs.Plans.{word}
+use Rattle.recording.specs.Coding.{decoded}
 use Rattle.evaluator.specs.Answers.{figures_answer, edge_answer, plan_of}
 use Rattle.evaluator.specs.Histories.{load_string}
 use Rattle.evaluator.specs.WorkingSets.{working_answer}
@@ -36,6 +37,7 @@ moves_of_s =
     word 1 1 0 ∷ word 1 1 1 ∷ word 1 1 2 ∷ word 4 0 2 ∷ word 4 1 3 ∷ word 7 0 3 ∷ word 7 1 4 ∷ word 10 0 0 ∷ word 10 0 1 ∷ word 10 1 2 ∷ word 10 1 3 ∷ []
 
 pub record WorkedExamples : Type 0 where
+  pub loaded : decoded 0 12 256 recorded ≡ Ok 12
   pub string : load_string 0 12 256 recorded ≡ S
   pub one : Row 1 12 12 12 12
   pub two : Row 2 12 9 6 11

@@ -1,6 +1,7 @@
 //! Recordings loaded and stored.
 use names::list::NameList;
 use names::name::{Page, TaskPage};
+use paging::refusal::Refusal;
 use recording::decode::decode;
 use recording::encode::encode;
 use recording::fault::{Layer, LoadFault};
@@ -88,4 +89,24 @@ fn tasks(rt: HostRuntime) {
     assert_eq!(rt; &codes[0..3], b"\x00\x01\x00".as_slice());
     assert_eq!(rt; (memory[0].task, memory[0].page), (15, 1));
     assert_eq!(rt; (memory[1].task, memory[1].page), (1, 1));
+}
+
+// The code, or 100 and the refusal's number.
+fn found(answer: Result<u8, Refusal>) -> u32 {
+    match answer {
+        Ok(code) => code as u32,
+        Err(refusal) => 100 + refusal.number() as u32,
+    }
+}
+
+#[test]
+fn names_are_added_once(rt: HostRuntime) {
+    let mut memory = [Page { page: 0 }; 2];
+    let mut list = NameList::over(&mut memory);
+    assert_eq!(rt; found(list.look_up(Page { page: 7 })), 0);
+    assert_eq!(rt; found(list.look_up(Page { page: 9 })), 1);
+    assert_eq!(rt; found(list.look_up(Page { page: 4103 })), 0);
+    assert_eq!(rt; found(list.look_up(Page { page: 9 })), 1);
+    assert_eq!(rt; found(list.look_up(Page { page: 8 })), 106);
+    assert_eq!(rt; list.len(), 2);
 }

@@ -4,7 +4,7 @@ use Rattle.recording.specs.declared.fault.LoadFault.{LoadFault}
 use Rattle.recording.specs.Coding.{names_of, names_recorded}
 use Rattle.names.specs.Lists.{limit_of}
 use Rattle.evaluator.specs.Histories.{loaded}
-use Rattle.evaluator.proofs.Loads.{refused_string, loaded_few}
+use Rattle.evaluator.proofs.Loads.{refused_string, loaded_few, loaded_length, loaded_pages}
 use Rattle.evaluator.proofs.Stores.{load_stores}
 use Rattle.evaluator.proofs.Trial.load.Goals as goal
 
@@ -23,6 +23,7 @@ returns-in_err-count g c =
           ap (λ (r : Result ℕ LoadFault). cond (is_ok r) (length (names_of (limit_of places) (names_recorded kind width bytes))) 0) (sym same);
       memory = c.decode.ensures.memory;
       lender = c.decode.ensures.lender;
+      counts = rw p.1 tt;
       stores = rw p.1 tt;
     }
 
@@ -39,6 +40,10 @@ returns g c =
     record {
       answer = sym answer;
       string = sym (ap loaded coded);
+      counts = (
+        loaded_length kind width (length memory) bytes n _ answer coded,
+        loaded_pages kind width (length memory) bytes c.decode.new.list.count _ coded count,
+      );
       count = count;
       memory = c.decode.ensures.memory;
       lender = c.decode.ensures.lender;
