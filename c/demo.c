@@ -1,9 +1,11 @@
 /*
  * Hands a recording over as bytes, and prints its listing.
  *
- * To build it, in the repository's folder, with KIT for the folder of the toolchain:
- *     rt staticlib listing
- *     cc -Ic c/demo.c target/staticlib/liblisting.a KIT/lib/librattle_c.a -o target/demo
+ * To build it, `c/build`, or in the repository's folder, with the toolchain's `rt` on the path:
+ *     (cd crates/listing_c && rt lib)
+ *     mkdir -p target/staticlib
+ *     cp crates/listing_c/out/liblisting_c.a target/staticlib/liblisting.a
+ *     cc -Ic c/demo.c target/staticlib/liblisting.a -o target/demo
  * Then `target/demo` prints the listing of the recording below.
  */
 #include "bands.h"

@@ -36,10 +36,9 @@ pub fn listing(recording: &[u8], out: &mut [u8]) -> Result<usize, Refusal>
     }
 }
 
-/// The listing of a recording, for C. Returns how many bytes it wrote, or 0 where the memory is too short: no listing is
-/// empty.
-#[unsafe(no_mangle)]
-pub extern "C" fn bands_listing(recording: &[u8], out: &mut [u8]) -> usize
+/// The listing of a recording, as it is exported to C. Returns how many bytes it wrote, or 0 where the memory is too short:
+/// no listing is empty.
+pub fn bands_listing(recording: &[u8], out: &mut [u8]) -> usize
     ensures answer { result ≡ count_written (listing_text recording.now) out.old }
     ensures bytes { out.new ≡ written (listing_text recording.now) out.old }
     ensures some { 1 ≤ length (listing_text recording.now) }

@@ -58,9 +58,13 @@ pub fn names_for(heap: Global, string: &[u8], width: u32) -> Result<Vec<u32>, Al
     Ok(names)
 }
 
-/// For each name how many different names stand before its first place, and where the first name stands to which so many
-/// places do not reach, from 1, or 0 for none.
-fn codes_for(heap: Global, names: &[u32], places: usize) -> Result<(Vec<u8>, usize), AllocError> {
+/// For each name how many different names stand before its first place; where the first name stands to which so many
+/// places do not reach, from 1, or 0 for none; and how many different names there are.
+fn codes_for(
+    heap: Global,
+    names: &[u32],
+    places: usize,
+) -> Result<(Vec<u8>, usize, usize), AllocError> {
     let mut known: Vec<u32> = Vec::new(heap);
     let mut codes = Vec::new(heap);
     let mut over = 0;
@@ -79,7 +83,7 @@ fn codes_for(heap: Global, names: &[u32], places: usize) -> Result<(Vec<u8>, usi
         }
         codes.push((code % 256) as u8)?;
     }
-    Ok((codes, over))
+    Ok((codes, over, known.len()))
 }
 
 /// Whether a load was refused with the number, by that layer, at the place.
@@ -127,14 +131,14 @@ pub fn compare_recording<N: Name + Copy>(
     names: &[u32],
     bytes: &[u8],
 ) -> Result<(), AllocError> {
-    let (codes, over) = codes_for(heap, names, places)?;
+    let (codes, over, different) = codes_for(heap, names, places)?;
     let answer = trial.load(list, bytes);
     if over > 0 {
         tally.note(faults_at(answer, 6, true, over));
         tally.note(trial.len() == 0 && list.len() == 0);
         return Ok(());
     }
-    tally.note(answer.unwrap_or(usize::MAX) == names.len());
+    tally.note(answer.unwrap_or(usize::MAX) == names.len() && list.len() == different);
     tally.note(trial.len() == names.len() && holds_then(trial.codes(), &codes, 0));
     let room = bytes.len();
     for room in [room, room.saturating_add(2), room.saturating_sub(1)] {
