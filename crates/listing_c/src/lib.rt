@@ -15,3 +15,15 @@ pub extern "C" fn bands_listing(recording: &[u8], out: &mut [u8]) -> usize
 {
     listing::bands_listing(recording, out)
 }
+
+#[cfg(test)]
+mod tests {
+    use super::*;
+
+    #[test]
+    fn counts_the_bytes_of_a_refusal(rt: HostRuntime) {
+        let mut out = [9u8; 19];
+        assert!(rt; bands_listing(&[0x20, 0, 0], &mut out) == 18);
+        assert!(rt; &out == b"refused,2,bytes,0\n\x09");
+    }
+}
