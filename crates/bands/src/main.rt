@@ -7,32 +7,25 @@ use listing::listing;
 use std::io;
 use std::io::{Read, Write};
 
-/// Reads until the memory is full or the input ends; each turn reads a byte or more. Returns how many bytes were read.
+/// Reads until the memory is full or the input ends. Returns how many bytes were read.
 fn fill<R: Read>(input: &mut R, memory: &mut [u8]) -> io::Result<usize>
     ensures { IfOk result (λ n. n ≤ length memory.new) }
 {
-    let size = memory.len();
-    let mut count = 0usize;
-    for _ in 0..size {
-        if count == size {
-            break;
+    // A loop: `read_exact` fails on an early end, `read_to_end` wants a heap, and `copy` has no clause on this input's count.
+    let mut count = 0;
+    while count < memory.len() {
+        match input.read(&mut memory[count..])? {
+            0 => break,
+            more => count += more,
         }
-        let more = input.read(&mut memory[count..size])?;
-        if more == 0 {
-            break;
-        }
-        count += more;
     }
     Ok(count)
 }
 
 fn main(rt: HostRuntime) -> io::Result<()> {
     let mut recording = [0u8; 8196];
-    let mut input = rt.stdin();
-    let count = fill(&mut input, &mut recording)?;
+    let count = fill(&mut rt.stdin(), &mut recording)?;
     let mut text = [0u8; 8192];
-    match listing(&recording[0..count], &mut text) {
-        Ok(size) => rt.stdout().write_all(&text[0..size]),
-        Err(_) => Ok(()),
-    }
+    let size = listing(&recording[..count], &mut text).unwrap();
+    rt.stdout().write_all(&text[..size])
 }

@@ -4,8 +4,9 @@ use Rattle.std.specs.List.{range_with_len}
 use Rattle.paging.specs.declared.policy.Policy.{Policy}
 use Rattle.paging.specs.declared.policy.Policy.TheVariants.{Lru, Min, Dpmin, Fifo}
 use Rattle.paging.specs.declared.refusal.Refusal.{Refusal}
-use Rattle.paging.specs.declared.refusal.Refusal.TheVariants.{UnknownLetter, BadFrameCount, PolicyWithoutEdge, NoFrameCountWithin, PagerHoldsPages, OutputTooShort}
+use Rattle.paging.specs.declared.refusal.Refusal.TheVariants.{BadFrameCount, PolicyWithoutEdge, NoFrameCountWithin, PagerHoldsPages, OutputTooShort}
 use Rattle.paging.specs.Frames.{is_frames}
+use Rattle.paging.specs.Letters.{policy_of}
 use Rattle.paging.specs.Pages.{size}
 use Rattle.paging.specs.Models.{PagerModel, after, held_on, instants_on, pulls_on}
 use Rattle.paging.specs.Rankings.{RankingModel, told_all, tellings}
@@ -14,11 +15,6 @@ use Rattle.pager.specs.Plans.{plan_words}
 use Rattle.recording.specs.Reading.{and_then}
 use Rattle.ranking.specs.Edges.{edge, faults_at}
 use Rattle.ranking.specs.Stack.{pass_row}
-
--- the policy of a letter: L, M, D or F
-abbrev pub policy_of : ℕ → Result Policy Refusal
-policy_of l =
-    cond (l == 76) (Ok Lru) (cond (l == 77) (Ok Min) (cond (l == 68) (Ok Dpmin) (cond (l == 70) (Ok Fifo) (Err UnknownLetter))))
 
 -- what a call with a letter and a frame count answers: the letter is looked at first
 abbrev pub by_policy : {Y : Type 0} → ℕ → ℕ → (Policy → Result Y Refusal) → Result Y Refusal

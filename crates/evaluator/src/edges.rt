@@ -1,31 +1,30 @@
 //! Edges: the smallest frame count at which faults come down to a ceiling.
-ghost use Rattle.std.specs.Prelude.{◌≡◌, ◌≤◌, length, Ok};
+ghost use Rattle.std.specs.Prelude.{◌≡◌, Ok};
 ghost use Rattle.evaluator.specs.Answers.{edge_answer, found, instants_row, ranking_edge};
 ghost use Rattle.evaluator.specs.Strings.{string};
 ghost use Rattle.paging.specs.declared.policy.Policy.TheVariants.{Dpmin};
 ghost use Rattle.ranking.specs.Edges.{at_count, edge};
 
 use crate::Trial;
-use crate::letters::policy_of;
 use pager::runs::run;
 use pagers::dpmin::DpminPager;
 use paging::frames::FrameCount;
 use paging::policy::Policy;
 use paging::refusal::Refusal;
+use paging::string::References;
 use ranking::Ranking;
 use ranking::edge::edge_in;
 use ranking::last_reference::LastReference;
 use ranking::next_reference::NextReference;
 
 /// The fault instants of DPMIN at the frame counts 1 to 64.
-fn dpmin_row(string: &[u8]) -> Result<[u32; 64], Refusal>
-    requires { length string.now ≤ 4096 }
+fn dpmin_row(string: &References) -> Result<[u32; 64], Refusal>
     ensures { result ≡ Ok (instants_row Dpmin string.now) }
 {
     let mut row = [0; 64];
-    for k in 0..64 {
+    for (k, faults) in row.iter_mut().enumerate() {
         let mut pager = DpminPager::new(FrameCount::new(k as u32 + 1)?);
-        row[k] = run(&mut pager, string).0;
+        *faults = run(&mut pager, string).0;
     }
     Ok(row)
 }
@@ -34,10 +33,7 @@ fn dpmin_row(string: &[u8]) -> Result<[u32; 64], Refusal>
 fn within(row: &[u32; 64], ceiling: u32) -> Result<u32, Refusal>
     ensures { result ≡ found (edge (at_count row.now) ceiling) }
 {
-    match edge_in(row, ceiling) {
-        Some(frames) => Ok(frames),
-        None => Err(Refusal::NoFrameCountWithin),
-    }
+    edge_in(row, ceiling).ok_or(Refusal::NoFrameCountWithin)
 }
 
 impl Trial {
@@ -45,10 +41,11 @@ impl Trial {
     pub fn edge(&self, letter: char, ceiling: u32) -> Result<u32, Refusal>
         ensures { result ≡ edge_answer letter (string self.now) ceiling }
     {
-        match policy_of(letter)? {
+        // A match: DPMIN's edge has no ranking, and FIFO none at all.
+        match Policy::try_from(letter)? {
             Policy::Lru => self.edge_of(LastReference::new(), ceiling),
             Policy::Min => self.edge_of(NextReference::new(), ceiling),
-            Policy::Dpmin => within(&dpmin_row(self.codes())?, ceiling),
+            Policy::Dpmin => within(&dpmin_row(&self.references())?, ceiling),
             Policy::Fifo => Err(Refusal::PolicyWithoutEdge),
         }
     }
@@ -58,9 +55,8 @@ impl Trial {
     pub fn edge_of<R: Ranking + Drop>(&self, ranking: R, ceiling: u32) -> Result<u32, Refusal>
         ensures { result ≡ ranking_edge (R.order ranking) (string self.now) ceiling }
     {
-        match ranking::edge::edge_of(ranking, self.codes(), ceiling) {
-            Some(frames) => Ok(frames),
-            None => Err(Refusal::NoFrameCountWithin),
-        }
+        ranking::edge::edge_of(ranking, &self.references(), ceiling).ok_or(
+            Refusal::NoFrameCountWithin,
+        )
     }
 }

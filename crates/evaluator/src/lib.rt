@@ -5,7 +5,6 @@ ghost use Rattle.std.specs.Prelude.{◌≤◌};
 
 pub mod edges;
 pub mod figures;
-pub mod letters;
 pub mod pages;
 pub mod plans;
 pub mod recordings;
@@ -17,6 +16,7 @@ pub mod working;
 /// A string of 0 to 4,096 page references, by their codes.
 #[derive(Drop)]
 pub struct Trial {
+    // An array and a length, since nothing here is allocated.
     codes: [u8; 4096],
     len: usize,
     ghost few: { len ≤ 4096 },

@@ -10,8 +10,8 @@ fn different(string: &[u8]) -> u32
     ensures { result ≡ page_count string.now }
 {
     let mut seen = PageSet::new();
-    for t in 0..string.len() {
-        seen.insert(string[t]);
+    for &code in string {
+        seen.insert(code);
     }
     seen.len()
 }

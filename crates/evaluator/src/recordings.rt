@@ -51,6 +51,6 @@ impl Trial {
         ensures out { out.new ≡ written result (recording N.kind N.width (named_by (listed N.bits list.now.memory.now list.now.count) (string self.now))) out.old }
         ensures loads { IfOk result (λ n. LoadsAs N.kind N.width (named_by (listed N.bits list.now.memory.now list.now.count) (string self.now)) (take n out.new)) }
     {
-        encode(list, self.codes(), out)
+        encode(list, &self.references(), out)
     }
 }

@@ -18,7 +18,7 @@ impl Trial {
         if pager.held_count() != 0 {
             return Err(Refusal::PagerHoldsPages);
         }
-        Ok(pager::runs::run(pager, self.codes()))
+        Ok(pager::runs::run(pager, &self.references()))
     }
 
     /// Writes the faults of the ranking's own runs at the frame counts 1 to 64, and tells it the whole string. Returns how
@@ -31,7 +31,7 @@ impl Trial {
         if out.len() < 64 {
             return Err(Refusal::OutputTooShort);
         }
-        let row = ranking::pass::pass(ranking, self.codes());
+        let row = ranking::pass::pass(ranking, &self.references());
         out[0..64].copy_from_slice(&row);
         Ok(64)
     }

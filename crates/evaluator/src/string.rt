@@ -6,6 +6,7 @@ ghost use Rattle.std.specs.Prelude.{◌≡◌, ℕ, ◌<◌, ◌≤◌, [], leng
 
 use crate::Trial;
 use paging::refusal::Refusal;
+use paging::string::References;
 
 impl Trial {
     /// A trial with an empty string.
@@ -34,7 +35,14 @@ impl Trial {
         ensures value { result.now ≡ string self.now }
         ensures few { length result.now ≤ 4096 }
     {
-        &self.codes[0..self.len]
+        &self.codes[..self.len]
+    }
+
+    /// The string, lent.
+    pub(crate) fn references(&self) -> References<'_>
+        ensures { result ≡ string self.now }
+    {
+        References::new(self.codes())
     }
 
     /// Adds a code at the end of the string, which has less than 4,096. Returns the new length.

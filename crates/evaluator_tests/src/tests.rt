@@ -1,30 +1,8 @@
+//! The calls of a trial. Refusals are compared by the numbers that callers see.
 use evaluator::Trial;
 use paging::refusal::Refusal;
 
 const S: [u8; 12] = [0, 1, 2, 3, 0, 1, 4, 0, 1, 2, 3, 4];
-
-// The number of a refusal, or 0 for an answer.
-fn refused<T: Drop>(r: Result<T, Refusal>) -> u8 {
-    match r {
-        Ok(_) => 0,
-        Err(e) => e.number(),
-    }
-}
-
-// What was answered, or a number that no call answers.
-fn answered(r: Result<usize, Refusal>) -> usize {
-    match r {
-        Ok(n) => n,
-        Err(_) => 99999,
-    }
-}
-
-fn pair(r: Result<(u32, u32), Refusal>) -> (u32, u32) {
-    match r {
-        Ok(p) => p,
-        Err(_) => (99999, 99999),
-    }
-}
 
 fn sample() -> Trial {
     let mut trial = Trial::new();
@@ -38,22 +16,22 @@ fn sample() -> Trial {
 fn take_back_to_nothing(rt: HostRuntime) {
     let mut trial = sample();
     assert_eq!(rt; trial.len(), 12);
-    assert_eq!(rt; refused(trial.take_back(13)), 9);
+    assert_eq!(rt; trial.take_back(13).map_err(Refusal::number), Err(9));
     assert_eq!(rt; trial.len(), 12);
-    assert_eq!(rt; answered(trial.take_back(12)), 0);
+    assert_eq!(rt; trial.take_back(12), Ok(0));
     assert_eq!(rt; trial.len(), 0);
 }
 
 #[test]
 fn put_up_to_the_limit(rt: HostRuntime) {
     let mut trial = Trial::new();
-    for i in 0..4096u32 {
-        assert_eq!(rt; answered(trial.put((i % 256) as u8)), i as usize + 1);
+    for i in 0..4096 {
+        assert_eq!(rt; trial.put((i % 256) as u8), Ok(i + 1));
     }
-    assert_eq!(rt; refused(trial.put(7)), 8);
+    assert_eq!(rt; trial.put(7).map_err(Refusal::number), Err(8));
     assert_eq!(rt; trial.len(), 4096);
     assert_eq!(rt; trial.clear(), 0);
-    assert_eq!(rt; answered(trial.put(7)), 1);
+    assert_eq!(rt; trial.put(7), Ok(1));
 }
 
 #[test]
@@ -66,41 +44,50 @@ fn figures_of_the_sample(rt: HostRuntime) {
         (8, 6, 3, 6),
         (5, 5, 1, 5),
     ];
-    for (i, row) in rows.iter().enumerate() {
-        let frames = (i as u32).saturating_add(1);
-        assert_eq!(rt; pair(trial.figures('L', frames)).0, row.0);
-        assert_eq!(rt; pair(trial.figures('M', frames)).1, row.1);
-        assert_eq!(rt; pair(trial.figures('D', frames)).0, row.2);
-        assert_eq!(rt; pair(trial.figures('D', frames)).1, row.3);
+    for (frames, (lru_instants, min_pulls, dpmin_instants, dpmin_pulls)) in (1..=5).zip(rows) {
+        assert_eq!(rt;
+            trial.figures('L', frames).map(|figures| figures.0),
+            Ok(lru_instants)
+        );
+        assert_eq!(rt;
+            trial.figures('M', frames).map(|figures| figures.1),
+            Ok(min_pulls)
+        );
+        assert_eq!(rt;
+            trial.figures('D', frames),
+            Ok((dpmin_instants, dpmin_pulls))
+        );
     }
-    assert_eq!(rt; pair(trial.working_sets(3)).0, 10);
-    assert_eq!(rt; pair(trial.working_sets(3)).1, 33);
+    assert_eq!(rt; trial.working_sets(3), Ok((10, 33)));
 }
 
 #[test]
 fn questions_in_their_order(rt: HostRuntime) {
     let trial = sample();
-    assert_eq!(rt; refused(trial.figures('X', 0)), 10);
-    assert_eq!(rt; refused(trial.figures('l', 3)), 10);
-    assert_eq!(rt; refused(trial.figures('L', 0)), 11);
-    assert_eq!(rt; refused(trial.figures('L', 65)), 11);
-    assert_eq!(rt; refused(trial.edge('X', 0)), 10);
-    assert_eq!(rt; refused(trial.edge('F', 100)), 12);
-    assert_eq!(rt; refused(trial.edge('L', 4)), 13);
-    assert_eq!(rt; refused(trial.working_sets(0)), 15);
-    assert_eq!(rt; refused(trial.working_sets(4097)), 15);
+    assert_eq!(rt; trial.figures('X', 0).map_err(Refusal::number), Err(10));
+    assert_eq!(rt; trial.figures('l', 3).map_err(Refusal::number), Err(10));
+    assert_eq!(rt; trial.figures('L', 0).map_err(Refusal::number), Err(11));
+    assert_eq!(rt; trial.figures('L', 65).map_err(Refusal::number), Err(11));
+    assert_eq!(rt; trial.edge('X', 0).map_err(Refusal::number), Err(10));
+    assert_eq!(rt; trial.edge('F', 100).map_err(Refusal::number), Err(12));
+    assert_eq!(rt; trial.edge('L', 4).map_err(Refusal::number), Err(13));
+    assert_eq!(rt; trial.working_sets(0).map_err(Refusal::number), Err(15));
+    assert_eq!(rt; trial.working_sets(4097).map_err(Refusal::number), Err(15));
 }
 
 #[test]
 fn a_plan_that_does_not_fit(rt: HostRuntime) {
     let trial = sample();
     let mut words = [7; 12];
-    assert_eq!(rt; answered(trial.plan('D', 3, &mut words)), 11);
+    assert_eq!(rt; trial.plan('D', 3, &mut words), Ok(11));
     assert_eq!(rt; words[0], 0xC0000);
     assert_eq!(rt; words[3], 0x200800);
     assert_eq!(rt; words[11], 7);
     let mut few = [7; 10];
-    assert_eq!(rt; refused(trial.plan('D', 3, &mut few)), 17);
+    assert_eq!(rt;
+        trial.plan('D', 3, &mut few).map_err(Refusal::number),
+        Err(17)
+    );
     assert_eq!(rt; few[0], 7);
     assert_eq!(rt; few[9], 7);
 }

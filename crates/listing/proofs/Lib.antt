@@ -1,5 +1,4 @@
-pub mod Overlays
+pub mod Digits
 pub mod Tables
 pub mod Rows
 pub mod KindBits
-pub mod Answered

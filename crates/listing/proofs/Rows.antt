@@ -1,7 +1,6 @@
 -- The figures of a row, as the calls of a trial answer them. Assumes nothing.
-use Rattle.std.proofs.Common.{◌≡◌, ℕ, ◌+◌, ◌-◌, ◌<◌, ◌≤◌, min, max, true, List, ◌++◌, length, get_or, take, drop, Ok, Result, ap, ◌∙◌, arith}
-use Rattle.std.proofs.lemmas.List.FromFn.{length-map-range_with_len, get_or-map-range_with_len}
-use Rattle.std.proofs.lemmas.List.{get_or_append_left, length-take-le}
+use Rattle.std.proofs.Common.{◌≡◌, ℕ, ◌+◌, ◌<◌, ◌≤◌, true, List, get_or, Ok, Result, ap, ◌∙◌, arith}
+use Rattle.std.proofs.lemmas.List.FromFn.{get_or-map-range_with_len}
 use Rattle.std.proofs.lemmas.Bool.{cond-true, le-leb}
 use Rattle.paging.specs.declared.policy.Policy.TheVariants.{Lru, Min, Dpmin}
 use Rattle.paging.specs.declared.refusal.Refusal.{Refusal}
@@ -9,16 +8,14 @@ use Rattle.paging.specs.Frames.{is_frames}
 use Rattle.paging.specs.Policies.{instants, pulls_of}
 use Rattle.paging.specs.Rankings.{RankingModel, own_faults}
 use Rattle.ranking.specs.Stack.{pass_row}
-use Rattle.evaluator.specs.Answers.{figures_answer, pass_writes}
+use Rattle.evaluator.specs.Answers.{figures_answer}
 use Rattle.listing.specs.declared.text.Row.{Row}
 use Rattle.listing.specs.Listings.{row_of}
 
--- what a pass over the ranking q wrote into a row of 64 numbers
-pub pass_at : (r q : RankingModel) (s start out : List ℕ) (i : ℕ) → out ≡ pass_writes r s start → length start ≡ 64 → r ≡ q → i < 64 →
-    get_or out i 0 ≡ own_faults q (i + 1) s
-pass_at r q s start out i e n w h =
-    ap (λ (xs : List ℕ). get_or xs i 0) (e ∙ cond-true _ _ _ (le-leb 64 (length start) (omega (arith, n))) ∙ ap (λ (m : RankingModel). pass_row m s ++ drop 64 start) w)
-    ∙ get_or_append_left (pass_row q s) (drop 64 start) 0 i (omega (arith, length-map-range_with_len (λ k. own_faults q (k + 1) s) 0 64))
+-- of the numbers of a pass over a ranking, the one at a place
+pub passed_at : (r q : RankingModel) (s row : List ℕ) (i : ℕ) → row ≡ pass_row r s → r ≡ q → i < 64 → get_or row i 0 ≡ own_faults q (i + 1) s
+passed_at r q s row i e w h =
+    ap (λ (xs : List ℕ). get_or xs i 0) (e ∙ ap (λ (m : RankingModel). pass_row m s) w)
     ∙ get_or-map-range_with_len (λ k. own_faults q (k + 1) s) 0 64 i i 0 h (omega arith)
 
 -- DPMIN's figures at a frame count from 1 to 64
@@ -28,21 +25,14 @@ dpmin_figures f s l m = cond-true _ _ _ (framed f l m)
     framed : (f : ℕ) → 1 ≤ f → f ≤ 64 → is_frames f ≡ true
     framed f l m = rw (le-leb 1 f l, le-leb f 64 m)
 
-abbrev row : ℕ → ℕ → ℕ → ℕ → ℕ → Row
+abbrev pub row : ℕ → ℕ → ℕ → ℕ → ℕ → Row
 row f l m d p = record { frames = f; lru = l; min = m; dpmin = d; pulls = p }
 
 -- a row of which each number is what it should be
 pub row_made : (s : List ℕ) (f l m d p : ℕ) → l ≡ instants Lru f s → m ≡ instants Min f s →
     d ≡ instants Dpmin f s → p ≡ pulls_of Dpmin f s → row f l m d p ≡ row_of s f
-row_made s f l m d p a b c e =
-    ap (λ (k : ℕ). row f k m d p) a ∙ ap (λ (k : ℕ). row f (instants Lru f s) k d p) b
-    ∙ ap (λ (k : ℕ). row f (instants Lru f s) (instants Min f s) k p) c
-    ∙ ap (λ (k : ℕ). row f (instants Lru f s) (instants Min f s) (instants Dpmin f s) k) e
+row_made s f l m d p a b c e = rw (a, b, c, e)
 
 -- an answer of two numbers is known by each
 pub same_pair : (r : Result (ℕ × ℕ) Refusal) (a b x y : ℕ) → r ≡ Ok (a, b) → r ≡ Ok (x, y) → (a ≡ x) × (b ≡ y)
 same_pair r a b x y e f = let q : ◌≡◌ {A = ℕ × ℕ} (a, b) (x, y) = cc in (ap (λ (z : ℕ × ℕ). z.0) q, ap (λ (z : ℕ × ℕ). z.1) q)
-
--- the first rows of a table of 64, as many as there are pages, at least 1
-pub first_rows : (rs : List Row) (n p : ℕ) → length rs ≡ 64 → n ≡ max 1 (min 64 p) → length (take (n - 0) (drop 0 rs)) ≡ max 1 (min 64 p)
-first_rows rs n p l e = length-take-le (n - 0) rs (omega (arith, l, e)) ∙ omega (arith, e)

@@ -7,7 +7,7 @@ ghost use Rattle.listing.specs.Listings.{count_written, listing_text};
 
 use crate::figures::put_figures;
 use crate::loading::load_own;
-use crate::refused::put_fault;
+use crate::text::put_text;
 use evaluator::Trial;
 use paging::refusal::Refusal;
 
@@ -32,20 +32,18 @@ pub fn listing(recording: &[u8], out: &mut [u8]) -> Result<usize, Refusal>
     let mut trial = Trial::new();
     match load_own(&mut trial, recording) {
         Ok(_) => put_figures(out, &trial),
-        Err(fault) => put_fault(out, fault),
+        Err(fault) => put_text(out, &fault),
     }
 }
 
 /// The listing of a recording, as it is exported to C. Returns how many bytes it wrote, or 0 where the memory is too short:
 /// no listing is empty.
+// A number and 0 for a refusal, for C.
 pub fn bands_listing(recording: &[u8], out: &mut [u8]) -> usize
     ensures answer { result ≡ count_written (listing_text recording.now) out.old }
     ensures bytes { out.new ≡ written (listing_text recording.now) out.old }
     ensures some { 1 ≤ length (listing_text recording.now) }
     ensures most { length (listing_text recording.now) ≤ 6747 }
 {
-    match listing(recording, out) {
-        Ok(count) => count,
-        Err(_) => 0,
-    }
+    listing(recording, out).unwrap_or(0)
 }

@@ -1,47 +1,51 @@
 //! The table of the listing: the header, and a line for each row.
-ghost use Rattle.std.specs.Prelude.{◌≡◌, ◌+◌, ◌*◌, ◌≤◌, length};
-ghost use Rattle.evaluator.specs.Answers.{write_answer, written};
-ghost use Rattle.listing.specs.Listings.{lines, table_text};
-ghost use Rattle.listing.specs.Texts.{Wrote};
+ghost use Rattle.std.specs.Prelude.{◌≡◌, ◌≤◌, length};
+ghost use Rattle.listing.specs.Listings.{lines};
+ghost use Rattle.output.specs.Outputs.{HasRoom, Writes};
 
-use crate::text::{Row, put_bytes};
-use paging::refusal::Refusal;
+use crate::text::{Row, Text};
+use output::Output;
 
-/// How many bytes the lines of the rows take.
-fn lines_len(rows: &[Row]) -> usize
-    requires { length rows.now ≤ 64 }
-    ensures value { result ≡ length (lines rows.now) }
+const HEADER: &[u8] = b"frames,lru,min,dpmin,pulls\n";
+
+/// The table of some rows, at most 64.
+#[derive(Clone, Copy)]
+pub struct Table<'r> {
+    pub rows: &'r [Row],
+    ghost few: { length rows.now ≤ 64 },
+}
+
+/// How many bytes the lines of a table's rows take.
+fn lines_len(table: &Table) -> usize
+    ensures value { result ≡ length (lines table.now.rows.now) }
     ensures bound { result ≤ 6720 }
 {
-    let mut size = 0;
-    for i in 0..rows.len() {
-        size += rows[i].text_len();
-    }
-    size
+    table.rows.iter().map(|row| row.text_len()).sum()
 }
 
-/// Writes the lines of the rows from `at` on. Returns the place after them.
-fn put_lines(out: &mut [u8], at: usize, rows: &[Row]) -> usize
-    requires { at + length (lines rows.now) ≤ length out.old }
-    ensures { Wrote out.old at (lines rows.now) out.new result }
+/// Writes the lines of the rows.
+fn put_lines(output: &mut Output<u8>, rows: &[Row])
+    requires { HasRoom output.old (length (lines rows.now)) }
+    ensures { Writes output.old (lines rows.now) output.new }
 {
-    let mut end = at;
-    for i in 0..rows.len() {
-        end = rows[i].put(out, end);
+    for row in rows {
+        row.put(output);
     }
-    end
 }
 
-/// Writes the header and the lines of the rows, if they fit. Returns how many bytes they are.
-pub fn put_table(out: &mut [u8], rows: &[Row]) -> Result<usize, Refusal>
-    requires { length rows.now ≤ 64 }
-    ensures answer { result ≡ write_answer (length (table_text rows.now)) out.old }
-    ensures bytes { out.new ≡ written (table_text rows.now) out.old }
-    ensures most { length (table_text rows.now) ≤ 6747 }
-{
-    if out.len() < 27 + lines_len(rows) {
-        return Err(Refusal::OutputTooShort);
+impl Text for Table<'_> {
+    ghost use Rattle.listing.specs.Listings.{table_text};
+
+    ghost text = { λ table. table_text table.rows.now };
+
+    ghost longest = { 6747 };
+
+    fn text_len(&self) -> usize {
+        HEADER.len() + lines_len(self)
     }
-    let start = put_bytes(out, 0, b"frames,lru,min,dpmin,pulls\n");
-    Ok(put_lines(out, start, rows))
+
+    fn put(&self, output: &mut Output<u8>) {
+        output.extend_from_slice(HEADER);
+        put_lines(output, self.rows);
+    }
 }

@@ -1,23 +1,12 @@
--- The place of a name in a row, step by step, and what a look-up comes to.
-use Rattle.std.proofs.Common.{◌≡◌, ℕ, suc, ◌+◌, ◌-◌, ◌<◌, ◌≤◌, true, false, cond, eqb, ltb, List, [], ◌∷◌, map, length, get_or, take, drop, set, Ok, Err, sym, refl, ap, ◌∙◌, suc-le-suc, zero-le, arith}
-use Rattle.std.proofs.lemmas.List.{drop_more, drop_all, length-map, length-take-le}
-use Rattle.std.proofs.lemmas.Bool.{cond-true, cond-false, cond_both, lt-ltb, le-ltb}
+-- The place of a name in a row, and what looking one up comes to.
+use Rattle.std.proofs.Common.{◌≡◌, ℕ, suc, ◌+◌, ◌≤◌, Bool, true, false, cond, eqb, ltb, List, [], ◌∷◌, map, length, set, position, Some, None, Ok, Err, Result, sym, refl, ap, ◌∙◌, suc-le-suc, zero-le, arith}
+use Rattle.std.specs.List.{position_or_len}
+use Rattle.std.proofs.lemmas.List.{length-map, length-take-le}
+use Rattle.std.proofs.lemmas.List.Recursion.{is_position_or_len}
+use Rattle.std.proofs.lemmas.Bool.{cond-true, cond-false, cond_both, ltb-false}
+use Rattle.paging.specs.declared.refusal.Refusal.{Refusal}
 use Rattle.paging.specs.declared.refusal.Refusal.TheVariants.{NoPlaceForName}
-use Rattle.names.specs.Lists.{place_in, limit_of, known, adds, look_answer, held, in_list, listed, looked_up, looked_count, looked_memory}
-
-at_item : {X : Type 0} (f : X → ℕ) (xs : List X) (i : ℕ) (x : X) (m : ℕ) → i < length xs → x ≡ get_or xs i x → place_in (map f (drop i xs)) m ≡ cond (eqb (f x) m) 0 (suc (place_in (map f (drop (i + 1) xs)) m))
-at_item {X} f xs i x m h e =
-    ap (λ (ys : List X). place_in (map f ys) m) (drop_more xs i x h)
-    ∙ ap (λ (y : X). cond (eqb (f y) m) 0 (suc (place_in (map f (drop (i + 1) xs)) m))) (sym e)
-
-pub place_here : {X : Type 0} (f : X → ℕ) (xs : List X) (i : ℕ) (x : X) (m : ℕ) → i < length xs → x ≡ get_or xs i x → eqb (f x) m ≡ true → place_in (map f (drop i xs)) m ≡ 0
-place_here f xs i x m h e t = at_item f xs i x m h e ∙ cond-true _ _ _ t
-
-pub place_past : {X : Type 0} (f : X → ℕ) (xs : List X) (i : ℕ) (x : X) (m : ℕ) → i < length xs → x ≡ get_or xs i x → eqb (f x) m ≡ false → place_in (map f (drop i xs)) m ≡ suc (place_in (map f (drop (i + 1) xs)) m)
-place_past f xs i x m h e t = at_item f xs i x m h e ∙ cond-false _ _ _ t
-
-pub place_end : {X : Type 0} (f : X → ℕ) (xs : List X) (i m : ℕ) → length xs ≤ i → place_in (map f (drop i xs)) m ≡ 0
-place_end {X} f xs i m h = ap (λ (ys : List X). place_in (map f ys) m) (drop_all i xs h)
+use Rattle.names.specs.Lists.{place_in, limit_of, known, held, in_list, listed, looked_up, looked_count, looked_memory}
 
 pub place_most : (ns : List ℕ) (m : ℕ) → place_in ns m ≤ length ns
 place_most [] m = zero-le
@@ -26,42 +15,55 @@ place_most (n ∷ ns) m = cond_both (eqb n m) 0 (suc (place_in ns m)) (λ k. k �
 pub length_listed : {X : Type 0} (f : X → ℕ) (xs : List X) (k : ℕ) → length (listed f xs k) ≡ held (length xs) k
 length_listed f xs k = length-map (in_list xs k) f ∙ length-take-le (held (length xs) k) xs (omega arith)
 
--- what a look-up comes to: a known name, a new one without a place, and a new one
-pub look_known : (limit : ℕ) (ns : List ℕ) (m p : ℕ) → p ≡ place_in ns m → p < length ns → (Ok p ≡ look_answer limit ns m) × (adds limit ns m ≡ false)
-look_known limit ns m p e h =
-    let a : known ns m ≡ true = lt-ltb _ _ (omega arith) in
-    rw a (ap Ok e, refl)
+-- a search answers the place of a known name, and none for another
+search_place : {X : Type 0} (f : X → ℕ) (xs : List X) (m : ℕ) → position (λ x. eqb (f x) m) xs ≡ cond (known (map f xs) m) (Some (place_in (map f xs) m)) None
+search_place {X} f xs m =
+    let e : place_in (map f xs) m ≡ position_or_len (λ x. eqb (f x) m) xs = is_position_or_len (λ (ys : List X). place_in (map f ys) m) (λ x. eqb (f x) m) refl (λ x ys. grind arith) xs in
+    rw (← e, length-map) refl
 
-pub look_full : (limit : ℕ) (ns : List ℕ) (m : ℕ) → length ns ≤ place_in ns m → limit ≤ length ns → (Err NoPlaceForName ≡ look_answer limit ns m) × (adds limit ns m ≡ false)
-look_full limit ns m h full =
-    let a : known ns m ≡ false = le-ltb _ _ h in
-    let b : ltb (length ns) limit ≡ false = le-ltb _ _ full in
-    rw (a, b) (refl, refl)
+if_some : (b : Bool) (p q : ℕ) → Some p ≡ cond b (Some q) None → (b ≡ true) × (p ≡ q)
+if_some true p q e = (refl, cc)
+if_some false p q e = cc
 
-pub look_new : (limit : ℕ) (ns : List ℕ) (m : ℕ) → length ns ≤ place_in ns m → length ns < limit → (Ok (length ns) ≡ look_answer limit ns m) × (adds limit ns m ≡ true)
-look_new limit ns m h room =
-    let e : length ns ≡ place_in ns m = omega (arith, place_most ns m) in
-    let a : known ns m ≡ false = le-ltb _ _ h in
-    let b : ltb (length ns) limit ≡ true = lt-ltb _ _ room in
-    rw (a, b) (ap Ok e, refl)
+if_none : (b : Bool) (q : ℕ) → None ≡ cond b (Some q) None → b ≡ false
+if_none true q e = cc
+if_none false q e = refl
 
-module _ {X : Type 0} (f : X → ℕ) (xs : List X) (k : ℕ) (x : X) (h : ℕ) (is : h ≡ held (length xs) k) (p : ℕ) (at : p ≡ place_in (map f (take (h - 0) xs)) (f x)) where
-  place_listed : p ≡ place_in (listed f xs k) (f x)
-  place_listed =
-      let e : h - 0 ≡ held (length xs) k = omega arith in
-      at ∙ ap (λ (n : ℕ). place_in (map f (take n xs)) (f x)) e
+-- what was written has a place, and what was refused has none
+if_placed : (b : Bool) (c k : ℕ) (e : Refusal) → Ok c ≡ cond b (Ok k) (Err e) → b ≡ true
+if_placed true c k e h = refl
+if_placed false c k e h = cc
 
-  pub looks_known : p < h → (Ok p ≡ looked_up f xs k x) × (h ≡ looked_count f xs k x) × (xs ≡ looked_memory f xs k x)
-  looks_known low =
-      let r = look_known (limit_of (length xs)) (listed f xs k) (f x) p place_listed (omega (arith, length_listed f xs k)) in
-      rw r.1 (r.0, is, refl)
+if_refused : (b : Bool) (k : ℕ) (d e : Refusal) → Err d ≡ cond b (Ok k) (Err e) → b ≡ false
+if_refused true k d e h = cc
+if_refused false k d e h = refl
 
-  pub looks_full : h ≤ p → limit_of (length xs) ≤ h → (Err NoPlaceForName ≡ looked_up f xs k x) × (h ≡ looked_count f xs k x) × (xs ≡ looked_memory f xs k x)
-  looks_full high full =
-      let r = look_full (limit_of (length xs)) (listed f xs k) (f x) (omega (arith, length_listed f xs k, place_listed)) (omega (arith, length_listed f xs k)) in
-      rw r.1 (r.0, is, refl)
+module _ {X : Type 0} (f : X → ℕ) (xs : List X) (k : ℕ) (x : X) (most : k ≤ 256) (within : k ≤ length xs) where
+  -- what a look-up comes to where the name is found
+  pub looks_found : (ns : List X) (p : ℕ) → ns ≡ in_list xs k → Some p ≡ position (λ y. eqb (f y) (f x)) ns → (Ok p ≡ looked_up f xs k x) × (k ≡ looked_count f xs k x) × (xs ≡ looked_memory f xs k x)
+  looks_found ns p is e =
+      let h = if_some _ _ _ (e ∙ ap (position (λ y. eqb (f y) (f x))) is ∙ search_place f (in_list xs k) (f x)) in
+      let counted : k ≡ held (length xs) k = omega arith in
+      rw h.0 (ap Ok h.1, counted, refl)
 
-  pub looks_new : h ≤ p → h < limit_of (length xs) → (Ok h ≡ looked_up f xs k x) × (h + 1 ≡ looked_count f xs k x) × (set xs h x ≡ looked_memory f xs k x)
-  looks_new high room =
-      let r = look_new (limit_of (length xs)) (listed f xs k) (f x) (omega (arith, length_listed f xs k, place_listed)) (omega (arith, length_listed f xs k)) in
-      rw r.1 (ap Ok (is ∙ sym (length_listed f xs k)) ∙ r.0, ap (λ n. n + 1) is, ap (λ n. set xs n x) is)
+  module _ (ns : List X) (is : ns ≡ in_list xs k) (none : None ≡ position (λ y. eqb (f y) (f x)) ns) where
+    looks_new :
+        (cond (ltb k (limit_of (length xs))) (Ok k) (Err NoPlaceForName) ≡ looked_up f xs k x)
+        × (cond (ltb k (limit_of (length xs))) (k + 1) k ≡ looked_count f xs k x)
+        × (cond (ltb k (limit_of (length xs))) (set xs k x) xs ≡ looked_memory f xs k x)
+    looks_new =
+        let h : known (listed f xs k) (f x) ≡ false = if_none _ _ (none ∙ ap (position (λ y. eqb (f y) (f x))) is ∙ search_place f (in_list xs k) (f x)) in
+        let counted : held (length xs) k ≡ k = omega arith in
+        let all : length (listed f xs k) ≡ k = length_listed f xs k ∙ counted in
+        let last : place_in (listed f xs k) (f x) ≡ k = omega (arith, place_most (listed f xs k) (f x), ltb-false _ _ h) in
+        rw (h, all, last, counted) (refl, refl, refl)
+
+    -- where it is not found, and has a place behind the others
+    pub looks_put : (c : ℕ) (xs' : List X) → Ok c ≡ cond (ltb k (limit_of (length xs))) (Ok k) (Err NoPlaceForName) → xs' ≡ cond (ltb k (limit_of (length xs))) (set xs k x) xs →
+        (Ok c ≡ looked_up f xs k x) × (k + 1 ≡ looked_count f xs k x) × (xs' ≡ looked_memory f xs k x)
+    looks_put c xs' e m = (e ∙ looks_new.0, sym (cond-true _ _ _ (if_placed _ _ _ _ e)) ∙ looks_new.1, m ∙ looks_new.2)
+
+    -- and where there is no place
+    pub looks_refused : (r : Result ℕ Refusal) (d : Refusal) (xs' : List X) → r ≡ Err d → Err d ≡ cond (ltb k (limit_of (length xs))) (Ok k) (Err NoPlaceForName) → xs' ≡ cond (ltb k (limit_of (length xs))) (set xs k x) xs →
+        (r ≡ looked_up f xs k x) × (k ≡ looked_count f xs k x) × (xs' ≡ looked_memory f xs k x)
+    looks_refused r d xs' was e m = (was ∙ e ∙ looks_new.0, sym (cond-false _ _ _ (if_refused _ _ _ _ e)) ∙ looks_new.1, m ∙ looks_new.2)

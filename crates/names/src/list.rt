@@ -1,6 +1,6 @@
 //! Name lists over provided memory: a name's place in the list is its code.
-ghost use Rattle.std.specs.Prelude.{◌≡◌, ◌<◌, ◌≤◌, map, length, MatchOption, slice_index_or};
-ghost use Rattle.names.specs.Lists.{LookUp, held, in_list, limit_of, listed, looked_count, looked_memory, looked_up, place_in};
+ghost use Rattle.std.specs.Prelude.{◌≡◌, ◌+◌, ◌<◌, ◌≤◌, ◌==◌, position, length, cond, nat_lt, slice_set, Ok, Err, MatchOption, slice_index_or};
+ghost use Rattle.names.specs.Lists.{LookUp, held, in_list, limit_of, listed, looked_count, looked_memory, looked_up};
 
 use crate::name::Name;
 use paging::refusal::Refusal;
@@ -8,8 +8,11 @@ use paging::refusal::Refusal;
 /// A list of different names in provided memory. It holds as many as the memory has places, at most 256.
 #[derive(Drop)]
 pub struct NameList<'m, N: Name> {
+    // The memory that the caller lends and how many places of it are taken, since nothing here is allocated.
     memory: &'m mut [N],
     count: usize,
+    ghost most: { count ≤ 256 },
+    ghost within: { count ≤ length memory.now },
 }
 
 impl<'m, N: Name + Copy> NameList<'m, N> {
@@ -26,7 +29,7 @@ impl<'m, N: Name + Copy> NameList<'m, N> {
     pub fn len(&self) -> usize
         ensures { result ≡ held (length self.now.memory.now) self.now.count }
     {
-        self.count.min(256).min(self.memory.len())
+        self.names().len()
     }
 
     /// Empties the list. The memory stays as it was.
@@ -42,19 +45,14 @@ impl<'m, N: Name + Copy> NameList<'m, N> {
     pub fn names(&self) -> &[N]
         ensures { result.now ≡ in_list self.now.memory.now self.now.count }
     {
-        let count = self.len();
-        &self.memory[0..count]
+        &self.memory[..self.count]
     }
 
     /// The name that has a code, if there is one.
     pub fn name_of(&self, code: u8) -> Option<N>
         ensures { MatchOption result (length (in_list self.now.memory.now self.now.count) ≤ code) (λ x. (code < length (in_list self.now.memory.now self.now.count)) × (x ≡ slice_index_or (in_list self.now.memory.now self.now.count) code x)) }
     {
-        let names = self.names();
-        if code as usize >= names.len() {
-            return None;
-        }
-        Some(names[code as usize])
+        self.names().get(code as usize).copied()
     }
 
     /// The code of a name, which is its place in the list, counted from 0. A new name is added at the end.
@@ -65,41 +63,30 @@ impl<'m, N: Name + Copy> NameList<'m, N> {
         ensures memory { self.new.memory.now ≡ looked_memory N.bits self.old.memory.now self.old.count n }
         ensures lender { self.new.memory.ghost_name ≡ self.old.memory.ghost_name }
     {
-        let mut count = self.count;
-        let answer = look_in(self.memory, &mut count, n);
-        self.count = count;
-        answer
-    }
-}
-
-// The place of the first name that is equal to the given one, or the length.
-fn place_of<N: Name>(names: &[N], sought: &N) -> usize
-    ensures { result ≡ place_in (map N.bits names.now) (N.bits sought.now) }
-{
-    for i in 0..names.len() {
-        if names[i].same(sought) {
-            return i;
+        if let Some(place) = place_of(self.names(), &n) {
+            return Ok(place as u8);
         }
+        let code = put_behind(self.memory, self.count, n)?;
+        self.count += 1;
+        Ok(code)
     }
-    names.len()
 }
 
-// Finds n among the first names of the memory, or writes it after them: its place.
-fn look_in<N: Name + Copy>(memory: &mut [N], count: &mut usize, n: N) -> Result<u8, Refusal>
-    ensures answer { result ≡ looked_up N.bits memory.old count.old n }
-    ensures count { count.new ≡ looked_count N.bits memory.old count.old n }
-    ensures memory { memory.new ≡ looked_memory N.bits memory.old count.old n }
+// The place of the first name that is equal to the given one, if there is one.
+fn place_of<N: Name>(names: &[N], sought: &N) -> Option<usize>
+    ensures { result ≡ position (λ x. N.bits x == N.bits sought.now) names.now }
 {
-    let held = (*count).min(256).min(memory.len());
-    *count = held;
-    let place = place_of(&memory[0..held], &n);
-    if place < held {
-        return Ok(place as u8);
-    }
-    if held >= memory.len() || held >= 256 {
+    names.iter().position(|n| n.same(sought))
+}
+
+// Writes a new name behind the names that the memory holds: its code.
+fn put_behind<N: Name + Copy>(memory: &mut [N], held: usize, n: N) -> Result<u8, Refusal>
+    ensures answer { result ≡ cond (nat_lt held (limit_of (length memory.old))) (Ok held) (Err Refusal.NoPlaceForName) }
+    ensures memory { memory.new ≡ cond (nat_lt held (limit_of (length memory.old))) (slice_set memory.old held n) memory.old }
+{
+    if held >= memory.len().min(256) {
         return Err(Refusal::NoPlaceForName);
     }
     memory[held] = n;
-    *count = held + 1;
     Ok(held as u8)
 }

@@ -5,14 +5,10 @@ ghost use Rattle.std.proofs.Common.{rules};
 
 use paging::refusal::Refusal;
 
-// How many bits stand for a name in a recording, and the kind's number, for both kinds.
-const PAGE_WIDTH: usize = 12;
+// How many numbers of pages there are, and of tasks.
+const PAGES: u16 = 4096;
 
-const PAGE_KIND: u16 = 0;
-
-const TASK_PAGE_WIDTH: usize = 16;
-
-const TASK_PAGE_KIND: u16 = 1;
+const TASKS: u8 = 16;
 
 /// A kind of name. A name stands for a number of `width` bits, and names that stand for the same number are equal.
 pub trait Name {
@@ -28,10 +24,14 @@ pub trait Name {
     // the kind's number in a recording
     ghost kind: { ℕ };
 
-    /// Whether two names are equal.
+    /// Whether two names are equal, which is whether they stand for the same bits.
     fn same(&self, other: &Self) -> bool
-        ensures { result ≡ (bits self.now == bits other.now) };
+        ensures { result ≡ (bits self.now == bits other.now) }
+    {
+        self.to_bits() == other.to_bits()
+    }
 
+    // Methods and no `From`: the law `back` ties the two to one another, and to how many bits there are.
     /// The bits that stand for the name in a recording.
     fn to_bits(&self) -> u16
         ensures { result ≡ bits self.now };
@@ -40,6 +40,7 @@ pub trait Name {
     fn from_bits(number: u16) -> Self
         ensures { result ≡ named number };
 
+    // Functions and no constants of the trait: clauses would then name the constant, N.WIDTH for N.width, which is no plainer.
     /// How many bits stand for a name in a recording.
     fn bit_width() -> usize
         ensures { result ≡ width };
@@ -66,11 +67,16 @@ pub struct Page {
 }
 
 impl Page {
+    // How many bits stand for a page in a recording, and the number of its kind.
+    const WIDTH: usize = 12;
+
+    const KIND: u16 = 0;
+
     /// The name of a page from 0 to 4,095.
     pub fn new(page: u16) -> Result<Page, Refusal>
         ensures { result ≡ page_made page }
     {
-        if page >= 4096 {
+        if page >= PAGES {
             return Err(Refusal::NameTooLarge);
         }
         Ok(Page { page })
@@ -96,12 +102,8 @@ impl Name for Page {
 
     ghost back = { Prim.search rules };
 
-    fn same(&self, other: &Page) -> bool {
-        self.to_bits() == other.to_bits()
-    }
-
     fn to_bits(&self) -> u16 {
-        self.page % 4096
+        self.page % PAGES
     }
 
     fn from_bits(number: u16) -> Page {
@@ -109,11 +111,11 @@ impl Name for Page {
     }
 
     fn bit_width() -> usize {
-        PAGE_WIDTH
+        Page::WIDTH
     }
 
     fn kind_number() -> u16 {
-        PAGE_KIND
+        Page::KIND
     }
 }
 
@@ -125,11 +127,16 @@ pub struct TaskPage {
 }
 
 impl TaskPage {
+    // How many bits stand for a page of a task in a recording, and the number of its kind.
+    const WIDTH: usize = 16;
+
+    const KIND: u16 = 1;
+
     /// The name of a page from 0 to 4,095 of a task from 0 to 15.
     pub fn new(task: u8, page: u16) -> Result<TaskPage, Refusal>
         ensures { result ≡ task_made task page }
     {
-        if task >= 16 || page >= 4096 {
+        if task >= TASKS || page >= PAGES {
             return Err(Refusal::NameTooLarge);
         }
         Ok(TaskPage { task, page })
@@ -155,26 +162,22 @@ impl Name for TaskPage {
 
     ghost back = { Prim.search rules };
 
-    fn same(&self, other: &TaskPage) -> bool {
-        self.task % 16 == other.task % 16 && self.page % 4096 == other.page % 4096
-    }
-
     fn to_bits(&self) -> u16 {
-        (self.task % 16) as u16 * 4096 + self.page % 4096
+        (self.task % TASKS) as u16 * PAGES + self.page % PAGES
     }
 
     fn from_bits(number: u16) -> TaskPage {
         TaskPage {
-            task: (number / 4096) as u8,
-            page: number % 4096,
+            task: (number / PAGES) as u8,
+            page: number % PAGES,
         }
     }
 
     fn bit_width() -> usize {
-        TASK_PAGE_WIDTH
+        TaskPage::WIDTH
     }
 
     fn kind_number() -> u16 {
-        TASK_PAGE_KIND
+        TaskPage::KIND
     }
 }

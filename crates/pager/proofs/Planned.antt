@@ -1,5 +1,5 @@
 -- The plan of a pager, place by place. Assumes nothing.
-use Rattle.std.proofs.Common.{◌≡◌, ℕ, zero, suc, ◌+◌, ◌-◌, ◌<◌, ◌≤◌, Bool, true, false, not, ◌&&◌, ◌⊎◌, List, [], ◌++◌, length, take, drop, sym, refl, ap, ◌∙◌, inl, inr, append-nil, zero-add, arith, length-append}
+use Rattle.std.proofs.Common.{◌≡◌, ℕ, zero, suc, ◌+◌, ◌-◌, ◌<◌, ◌≤◌, Bool, true, false, not, ◌&&◌, ◌⊎◌, List, [], ◌++◌, length, take, drop, sym, refl, ap, ◌∙◌, subst, inl, inr, append-nil, arith, length-append}
 use mathlib.Core.Path.{fun_ext}
 use Rattle.std.proofs.lemmas.List.{nil_from_length}
 use Rattle.std.proofs.lemmas.Bool.{lt-ltb, le-ltb, cases_lt}
@@ -8,10 +8,13 @@ use Rattle.paging.specs.Schedules.{pulled}
 use Rattle.paging.specs.Models.{PagerModel, served, after, held_on}
 use Rattle.paging.proofs.Sets.{total_same}
 use Rattle.paging.proofs.Balance.{pulled_balance}
+use Rattle.output.specs.declared.Output.{Output}
+use Rattle.output.specs.Outputs.{HasRoom, Writes}
+use Rattle.output.proofs.Outputs.{writes_more, room_after}
 use Rattle.pager.specs.Prepaging.{filled}
-use Rattle.pager.specs.Plans.{less, words, moves, plan_words, written}
+use Rattle.pager.specs.Plans.{less, words, moves, plan_words}
 use Rattle.pager.proofs.Places.{after_step}
-use Rattle.pager.proofs.Words.{words_same, words_long, plan_more, plan_grow, written_both}
+use Rattle.pager.proofs.Words.{words_same, words_long, plan_more, plan_grow}
 
 -- what is held of the codes
 abbrev pub clip : Pages → Pages
@@ -75,35 +78,25 @@ module _ (b m m' : PagerModel) (s : List ℕ) (t : ℕ) (here : t < length s) (a
       ap (λ (M : Pages). plan_words (held_on b s) t ++ moves (t + 1) M (held_on b s (t + 1))) (sym (ap F at)) ∙
       ap (λ (N : Pages). plan_words (held_on b s) t ++ moves (t + 1) (m []) N) (sym (ap F (after_step b m m' s t here at served_is)))
 
-  module _ (old out : List ℕ) (n : ℕ) (fits : length (plan_words (held_on b s) (length s)) ≤ length old)
-      (count : n ≡ length (plan_words (held_on b s) t)) (wrote : out ≡ written old 0 (plan_words (held_on b s) t)) where
-    module _ (M N : Pages) (was : M ≡ clip (m [])) (is : N ≡ clip (m' [])) where
-      same_moves : moves (t + 1) M N ≡ moves (t + 1) (m []) (m' [])
-      same_moves =
-          ap (λ (A : Pages). moves (t + 1) A N) was ∙ ap (λ (A : Pages). moves (t + 1) (clip (m [])) A) is ∙ moves_clip (t + 1) (m []) (m' [])
+  module _ (M N : Pages) (was : M ≡ clip (m [])) (is : N ≡ clip (m' [])) where
+    same_moves : moves (t + 1) M N ≡ moves (t + 1) (m []) (m' [])
+    same_moves =
+        ap (λ (A : Pages). moves (t + 1) A N) was ∙ ap (λ (A : Pages). moves (t + 1) (clip (m [])) A) is ∙ moves_clip (t + 1) (m []) (m' [])
 
-      pub plan_room : length out ≡ length old → n + length (moves (t + 1) M N) ≤ length out
-      plan_room kept =
-          let i : t + 1 + (length s - (t + 1)) ≡ length s = omega arith in
-          let g : length (plan_words (held_on b s) (t + 1)) ≤ length (plan_words (held_on b s) (length s)) =
-          rw i at (plan_grow (held_on b s) (t + 1) (length s - (t + 1))) in
-          omega (arith, ap length on, length-append (plan_words (held_on b s) t) (moves (t + 1) (m []) (m' [])), ap length same_moves)
+    pub plan_room : {a p : Output ℕ} → HasRoom a (length (plan_words (held_on b s) (length s))) → Writes a (plan_words (held_on b s) t) p →
+        HasRoom p (length (moves (t + 1) M N))
+    plan_room {a} {p} room wrote =
+        let i : t + 1 + (length s - (t + 1)) ≡ length s = omega arith in
+        let g : length (plan_words (held_on b s) (t + 1)) ≤ length (plan_words (held_on b s) (length s)) =
+        rw i at (plan_grow (held_on b s) (t + 1) (length s - (t + 1))) in
+        room_after (length (moves (t + 1) M N)) (omega (arith, room, ap length on, length-append (plan_words (held_on b s) t) (moves (t + 1) (m []) (m' [])), ap length same_moves)) wrote
 
-      pub plan_count : n + length (moves (t + 1) M N) ≡ length (plan_words (held_on b s) (t + 1))
-      plan_count = omega (arith, ap length on, length-append (plan_words (held_on b s) t) (moves (t + 1) (m []) (m' [])), ap length same_moves)
+    pub plan_wrote : {a p q : Output ℕ} → Writes a (plan_words (held_on b s) t) p → Writes p (moves (t + 1) M N) q → Writes a (plan_words (held_on b s) (t + 1)) q
+    plan_wrote {a} {p} {q} wrote more =
+        subst (λ (ws : List ℕ). Writes a ws q) (sym on)
+        (writes_more wrote (subst (λ (ws : List ℕ). Writes p ws q) same_moves more))
 
-      pub plan_wrote : written out n (moves (t + 1) M N) ≡ written old 0 (plan_words (held_on b s) (t + 1))
-      plan_wrote =
-          let i : t + 1 + (length s - (t + 1)) ≡ length s = omega arith in
-          let g : length (plan_words (held_on b s) (t + 1)) ≤ length (plan_words (held_on b s) (length s)) =
-          rw i at (plan_grow (held_on b s) (t + 1) (length s - (t + 1))) in
-          ap (λ (r : List ℕ). written r n (moves (t + 1) M N)) wrote ∙
-          ap (λ (k : ℕ). written (written old 0 (plan_words (held_on b s) t)) k (moves (t + 1) M N)) (count ∙ sym (zero-add (length (plan_words (held_on b s) t)))) ∙
-          written_both old 0 (plan_words (held_on b s) t) (moves (t + 1) M N)
-          (omega (arith, ap length on, length-append (plan_words (held_on b s) t) (moves (t + 1) (m []) (m' [])))) ∙
-          ap (written old 0) (ap (λ (r : List ℕ). plan_words (held_on b s) t ++ r) same_moves ∙ sym on)
-
-    pub plan_still : pulled (m []) (m' []) ≡ 0 → size (m' []) ≡ size (m []) → plan_words (held_on b s) (t + 1) ≡ plan_words (held_on b s) t
-    plan_still none same =
-        on ∙ ap (λ (r : List ℕ). plan_words (held_on b s) t ++ r) (nil_from_length (moves (t + 1) (m []) (m' [])) (no_moves (t + 1) (m []) (m' []) none same)) ∙
-        append-nil (plan_words (held_on b s) t)
+  pub plan_still : pulled (m []) (m' []) ≡ 0 → size (m' []) ≡ size (m []) → plan_words (held_on b s) (t + 1) ≡ plan_words (held_on b s) t
+  plan_still none same =
+      on ∙ ap (λ (r : List ℕ). plan_words (held_on b s) t ++ r) (nil_from_length (moves (t + 1) (m []) (m' [])) (no_moves (t + 1) (m []) (m' []) none same)) ∙
+      append-nil (plan_words (held_on b s) t)

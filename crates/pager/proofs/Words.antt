@@ -1,9 +1,11 @@
 -- The words of a plan, and words written over a list. Assumes nothing.
-use Rattle.std.proofs.Common.{◌≡◌, ℕ, zero, suc, ◌+◌, ◌-◌, ◌<◌, ◌≤◌, Bool, true, false, cond, List, [], ◌∷◌, ◌++◌, length, get_or, take, drop, set, sym, refl, ap, ◌∙◌, append_assoc, append-nil, add-zero, add-one, arith, length-append, length-drop}
-use Rattle.std.proofs.lemmas.List.{drop_more, drop-drop, take-append-drop, length-take-le, set_at, take_at, drop_at}
+use Rattle.std.proofs.Common.{◌≡◌, ℕ, zero, suc, ◌+◌, ◌-◌, ◌<◌, ◌≤◌, Bool, true, false, cond, List, [], ◌∷◌, ◌++◌, length, sym, refl, ap, ◌∙◌, subst, append-nil, add-zero, add-one, arith, length-append}
+use Rattle.output.specs.declared.Output.{Output}
+use Rattle.output.specs.Outputs.{HasRoom, Writes}
+use Rattle.output.proofs.Outputs.{writes_more, room_after}
 use Rattle.paging.specs.Pages.{bit, total, Pages}
 use Rattle.paging.specs.Schedules.{Holding}
-use Rattle.pager.specs.Plans.{word, words, moves, plan_words, written}
+use Rattle.pager.specs.Plans.{word, words, moves, plan_words}
 
 -- one page more
 pub words_more : (p k : ℕ) (P : Pages) (n : ℕ) → words p k P (n + 1) ≡ words p k P n ++ cond (P n) (word p k n ∷ []) []
@@ -43,46 +45,6 @@ unfolding words
 words_same p k P Q zero e = refl
 words_same p k P Q (suc n) e = rw (words_same p k P Q n (λ c l. e c (omega arith)), e n (omega arith))
 
--- words written over a list
-module _ (old : List ℕ) (n : ℕ) where
-  pub written_none : n ≤ length old → written old n [] ≡ old
-  written_none l = ap (λ (m : ℕ). take n old ++ drop m old) (add-zero n) ∙ take-append-drop n old
-
-  front : (ws : List ℕ) → n + length ws ≤ length old → length (take n old ++ ws) ≡ n + length ws
-  front ws l = simp length-append (omega (arith, length-take-le n old (omega arith)))
-
-  pub written_long : (ws : List ℕ) → n + length ws ≤ length old → length (written old n ws) ≡ length old
-  written_long ws l = simp (length-append, length-drop) (omega (arith, length-take-le n old (omega arith)))
-
-  pub written_more : (ws : List ℕ) (w : ℕ) → n + length ws < length old → set (written old n ws) (n + length ws) w ≡ written old n (ws ++ w ∷ [])
-  written_more ws w l =
-      ap (λ (r : List ℕ). set r (n + length ws) w)
-      (sym (append_assoc (take n old) ws (drop (n + length ws) old)) ∙ ap (λ (r : List ℕ). (take n old ++ ws) ++ r) (drop_more old (n + length ws) 0 l)) ∙
-      set_at (take n old ++ ws) (get_or old (n + length ws) 0) (drop (n + length ws + 1) old) w (n + length ws) (front ws (omega arith)) ∙
-      append_assoc (take n old) ws (w ∷ drop (n + length ws + 1) old) ∙
-      ap (λ (r : List ℕ). take n old ++ r) (sym (append_assoc ws (w ∷ []) (drop (n + length ws + 1) old))) ∙
-      ap (λ (m : ℕ). take n old ++ ((ws ++ w ∷ []) ++ drop m old)) long
-    where
-      long : n + length ws + 1 ≡ n + length (ws ++ w ∷ [])
-      long = simp length-append (omega arith)
-
-  pub written_both : (xs ys : List ℕ) → n + length xs ≤ length old → written (written old n xs) (n + length xs) ys ≡ written old n (xs ++ ys)
-  written_both xs ys l =
-      ap (λ (r : List ℕ). take (n + length xs) r ++ (ys ++ drop (n + length xs + length ys) r)) (sym (append_assoc (take n old) xs (drop (n + length xs) old))) ∙
-      ap (λ (r : List ℕ). r ++ (ys ++ drop (n + length xs + length ys) ((take n old ++ xs) ++ drop (n + length xs) old))) (take_at (take n old ++ xs) (drop (n + length xs) old) (n + length xs) (front xs l)) ∙
-      ap (λ (r : List ℕ). (take n old ++ xs) ++ (ys ++ r)) rest ∙
-      append_assoc (take n old) xs (ys ++ drop (n + length (xs ++ ys)) old) ∙
-      ap (λ (r : List ℕ). take n old ++ r) (sym (append_assoc xs ys (drop (n + length (xs ++ ys)) old)))
-    where
-      rest : drop (n + length xs + length ys) ((take n old ++ xs) ++ drop (n + length xs) old) ≡ drop (n + length (xs ++ ys)) old
-      rest =
-          sym (drop-drop (length ys) (n + length xs) ((take n old ++ xs) ++ drop (n + length xs) old)) ∙
-          ap (drop (length ys)) (drop_at (take n old ++ xs) (drop (n + length xs) old) (n + length xs) (front xs l)) ∙
-          drop-drop (length ys) (n + length xs) old ∙ ap (λ (m : ℕ). drop m old) long
-        where
-          long : n + length xs + length ys ≡ n + length (xs ++ ys)
-          long = simp length-append (omega arith)
-
 -- a plan, place by place
 pub plan_none : (H : Holding) → plan_words H 0 ≡ []
 unfolding plan_words
@@ -105,3 +67,13 @@ words_room p k P n m l e =
     let i : n + 1 + (m - (n + 1)) ≡ m = omega arith in
     let g : length (words p k P (n + 1)) ≤ length (words p k P m) = rw i at (words_grow p k P (n + 1) (m - (n + 1))) in
     omega (arith, ap length (words_yes p k P n e), length-append (words p k P n) (word p k n ∷ []))
+
+-- the words written through an output: a page more, and the last
+pub written_yes : (p k : ℕ) (P : Pages) (n : ℕ) {a b c : Output ℕ} → P n ≡ true → Writes a (words p k P n) b → Writes b (word p k n ∷ []) c → Writes a (words p k P (n + 1)) c
+written_yes p k P n {a} {b} {c} e v w = subst (λ (ws : List ℕ). Writes a ws c) (sym (words_yes p k P n e)) (writes_more v w)
+
+pub written_no : (p k : ℕ) (P : Pages) (n : ℕ) {a b : Output ℕ} → P n ≡ false → Writes a (words p k P n) b → Writes a (words p k P (n + 1)) b
+written_no p k P n {a} {b} e v = subst (λ (ws : List ℕ). Writes a ws b) (sym (words_no p k P n e)) v
+
+pub word_room : (p k : ℕ) (P : Pages) (n m : ℕ) {a b : Output ℕ} → n < m → P n ≡ true → HasRoom a (length (words p k P m)) → Writes a (words p k P n) b → HasRoom b 1
+word_room p k P n m l e h w = room_after 1 (omega (arith, h, words_room p k P n m l e)) w

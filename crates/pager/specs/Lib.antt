@@ -1,2 +1,3 @@
 pub mod Prepaging
 pub mod Plans
+pub mod Kinds

@@ -1,5 +1,5 @@
 -- Plans: the moves of a schedule, as words. Assumes nothing.
-use Rattle.std.specs.Prelude.{◌≡◌, ℕ, zero, suc, ◌+◌, ◌*◌, ◌/◌, ◌%◌, ◌<◌, ◌≤◌, cond, not, ◌&&◌, List, [], ◌∷◌, ◌++◌, length, take, drop, ◌==◌, nat_le}
+use Rattle.std.specs.Prelude.{◌≡◌, ℕ, zero, suc, ◌+◌, ◌*◌, ◌/◌, ◌%◌, ◌<◌, ◌≤◌, cond, not, ◌&&◌, List, [], ◌∷◌, ◌++◌, length, ◌==◌, nat_le}
 use Rattle.paging.specs.Pages.{bit, codes, Pages, with_page, without}
 use Rattle.paging.specs.Schedules.{Holding, pulls, releases}
 
@@ -24,10 +24,6 @@ moves p M N = words p 0 (less M N) codes ++ words p 1 (less N M) codes
 unfoldable pub plan_words : Holding → ℕ → List ℕ
 plan_words H zero = []
 plan_words H (suc t) = plan_words H t ++ moves (suc t) (H t) (H (suc t))
-
--- the list old with ws written over it from n on
-abbrev pub written : List ℕ → ℕ → List ℕ → List ℕ
-written old n ws = take n old ++ (ws ++ drop (n + length ws) old)
 
 -- what a word says: the place
 abbrev pub place_of : ℕ → ℕ

@@ -1,3 +1,4 @@
 pub mod Serves
 pub mod Ahead
 pub mod Admits
+pub mod Frames

@@ -1,3 +1,5 @@
 pub mod Tables
 pub mod Pagers
 pub mod Hands
+pub mod Laws
+pub mod Policies

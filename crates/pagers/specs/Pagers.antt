@@ -24,11 +24,11 @@ fifo_room p = p.room
 
 -- DPMIN with those pages held
 abbrev pub dpmin_model : DpminPager → PagerModel
-dpmin_model p = dpmin (frames_of p.frames) (pages p.held)
+dpmin_model p = dpmin (frames_of p.held.frames) (pages p.held.set)
 
 -- its frame count
 abbrev pub dpmin_room : DpminPager → ℕ
-dpmin_room p = frames_of p.frames
+dpmin_room p = frames_of p.held.frames
 
 -- a ranking's own run in f frames, from after n references on
 abbrev pub ranked_model : RankingModel → ℕ → ℕ → Pages → PagerModel

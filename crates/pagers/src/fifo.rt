@@ -17,6 +17,7 @@ pub struct Frame {
 /// first of them, and then the one with the page pulled longest ago.
 #[derive(Drop)]
 pub struct FifoPager {
+    // A table of frames and how many are in use, since nothing here is allocated.
     frames: [Frame; 64],
     room: u32,
     used: u32,

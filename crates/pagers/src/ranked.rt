@@ -1,11 +1,5 @@
 //! The pager that a ranking makes.
-ghost use Rattle.std.specs.Prelude.{◌≤◌};
-ghost use Rattle.paging.specs.Frames.{frames_of};
-ghost use Rattle.paging.specs.Pages.{size};
-ghost use Rattle.paging.specs.Sets.{pages};
-
-use paging::frames::FrameCount;
-use paging::set::PageSet;
+use paging::held::HeldPages;
 
 mod admit;
 mod places;
@@ -15,8 +9,6 @@ mod serve;
 #[derive(Drop)]
 pub struct RankingPager<R> {
     ranking: R,
-    frames: FrameCount,
     serves: u16,
-    held: PageSet,
-    ghost within: { size (pages held) ≤ frames_of frames },
+    held: HeldPages,
 }

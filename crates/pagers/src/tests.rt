@@ -5,42 +5,40 @@ use crate::ranked::RankingPager;
 use pager::plans::plan;
 use pager::runs::run;
 use paging::frames::FrameCount;
+use paging::string::References;
 use ranking::next_reference::NextReference;
 use std::test::Fail;
 
 const STRING: [u8; 12] = [0, 1, 2, 3, 0, 1, 4, 0, 1, 2, 3, 4];
 
 fn frames(count: u32) -> Result<FrameCount, Fail> {
-    match FrameCount::new(count) {
-        Ok(frames) => Ok(frames),
-        Err(_) => Err(Fail::new("no frame count")),
-    }
+    FrameCount::new(count).map_err(|_| Fail::new("no frame count"))
 }
 
 #[test]
 fn fifo_faults(rt: HostRuntime) -> Result<(), Fail> {
     let mut three = FifoPager::new(frames(3)?);
-    assert_eq!(rt; run(&mut three, &STRING), (9, 9));
+    assert_eq!(rt; run(&mut three, &References::new(&STRING)), (9, 9));
     let mut four = FifoPager::new(frames(4)?);
-    assert_eq!(rt; run(&mut four, &STRING), (10, 10));
+    assert_eq!(rt; run(&mut four, &References::new(&STRING)), (10, 10));
     Ok(())
 }
 
 #[test]
 fn dpmin_figures(rt: HostRuntime) -> Result<(), Fail> {
     let mut pager = DpminPager::new(frames(3)?);
-    assert_eq!(rt; run(&mut pager, &STRING), (4, 7));
+    assert_eq!(rt; run(&mut pager, &References::new(&STRING)), (4, 7));
     Ok(())
 }
 
 #[test]
 fn min_figures(rt: HostRuntime) -> Result<(), Fail> {
     let mut pager = RankingPager::new(NextReference::new(), frames(3)?);
-    assert_eq!(rt; run(&mut pager, &STRING), (7, 7));
+    assert_eq!(rt; run(&mut pager, &References::new(&STRING)), (7, 7));
     Ok(())
 }
 
-/// A move as a word.
+/// A move as a word, by the numbers of the format.
 fn word(place: u32, kind: u32, code: u32) -> u32 {
     place << 19 | kind << 18 | code << 10
 }
@@ -49,7 +47,8 @@ fn word(place: u32, kind: u32, code: u32) -> u32 {
 fn dpmin_plan(rt: HostRuntime) -> Result<(), Fail> {
     let mut pager = DpminPager::new(frames(3)?);
     let mut out = [1; 6144];
-    let count = plan(&mut pager, &STRING, &mut out);
+    let string = References::new(&STRING);
+    let count = plan(&mut pager, &string, &mut out);
     assert_eq!(rt; count, 11);
     assert_eq!(rt;
         [out[0], out[1], out[2]],

@@ -9,3 +9,4 @@ pub mod Policies
 pub mod Theorems
 pub mod Refusals
 pub mod Frames
+pub mod Letters

@@ -2,7 +2,9 @@
 #![tactic(auto)]
 
 pub mod frames;
+pub mod held;
 pub mod policy;
 pub mod refusal;
 pub mod set;
+pub mod string;
 pub mod theorems;

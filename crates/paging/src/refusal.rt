@@ -3,7 +3,7 @@ ghost use Rattle.paging.specs.Refusals.{number};
 ghost use Rattle.std.specs.Prelude.{◌≡◌};
 
 /// Why a call was refused. The first question that is answered "no" gives the number.
-#[derive(Clone, Copy)]
+#[derive(Clone, Copy, Debug, PartialEq, Eq)]
 pub enum Refusal {
     /// The recording has less than three bytes.
     TooShort = 1,
@@ -43,6 +43,7 @@ pub enum Refusal {
 
 impl Refusal {
     /// The refusal's number.
+    // A method: `u8::from` would say the same and be no plainer.
     pub fn number(self) -> u8
         ensures { result ≡ number self }
     {

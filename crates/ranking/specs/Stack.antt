@@ -1,8 +1,7 @@
 -- One stack of pages for all frame counts: its first f pages are what f frames hold. Assumes nothing.
-use Rattle.std.specs.Prelude.{ℕ, ◌+◌, Bool, cond, List, [], ◌∷◌, map, take, ◌==◌}
+use Rattle.std.specs.Prelude.{ℕ, ◌+◌, Bool, cond, List, [], ◌∷◌, map, ◌==◌}
 use Rattle.std.specs.List.{range_with_len}
 use Rattle.paging.specs.Rankings.{RankingModel, own_faults}
-use Rattle.ranking.specs.declared.stack.Stack.{Stack}
 
 -- the page c is carried down to where x was, and at each depth the page that is behind is carried on
 abbrev pub sift : (ℕ → ℕ → Bool) → ℕ → ℕ → List ℕ → List ℕ
@@ -13,10 +12,6 @@ sift o x c (y ∷ ys) = cond (y == x) (c ∷ ys) (cond (o c y) (c ∷ sift o x y
 abbrev pub restacked : (ℕ → ℕ → Bool) → ℕ → List ℕ → List ℕ
 restacked o x [] = x ∷ []
 restacked o x (y ∷ ys) = x ∷ cond (y == x) ys (sift o x y ys)
-
--- the pages of the stack as code, the top first
-abbrev pub stacked : Stack → List ℕ
-stacked s = take s.depth s.pages
 
 -- the faults of a ranking's own run at the frame counts 1 to 64
 abbrev pub pass_row : RankingModel → List ℕ → List ℕ

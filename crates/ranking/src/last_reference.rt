@@ -9,6 +9,7 @@ use crate::Ranking;
 /// For each code the place of its last reference, or 0 for a code never told of.
 #[derive(Drop)]
 pub struct LastReference {
+    // Places as they are told, where 0 is none.
     places: [u16; 256],
 }
 
@@ -32,8 +33,6 @@ impl Ranking for LastReference {
     }
 
     fn ahead(&self, a: u8, b: u8) -> bool {
-        let x = self.places[a as usize];
-        let y = self.places[b as usize];
-        y < x || (x == y && a < b)
+        (self.places[b as usize], a) < (self.places[a as usize], b)
     }
 }

@@ -22,6 +22,8 @@ pub trait Ranking {
     ghost order: { Self → RankingModel };
 
     /// Tells of a reference: its code, its place, and the place of the next reference to that code, or 0 for none.
+    // A number and no Option: every number from 0 to 65,535 may be told as a place, and 0 says none by the rule of rankings.
+    // Three numbers and no struct: each ranking keeps one of them and lets the others go.
     fn tell(&mut self, code: u8, place: u16, next: u16)
         ensures { order self.new ≡ told (order self.old) (telling code place next) };
 

@@ -9,6 +9,7 @@ use crate::Ranking;
 /// For each code the place of its next reference, or 0 for none and for a code never told of.
 #[derive(Drop)]
 pub struct NextReference {
+    // Places as they are told, where 0 is none.
     places: [u16; 256],
 }
 
@@ -34,10 +35,6 @@ impl Ranking for NextReference {
     fn ahead(&self, a: u8, b: u8) -> bool {
         let x = self.places[a as usize];
         let y = self.places[b as usize];
-        if x == y {
-            a < b
-        } else {
-            y == 0 || (x != 0 && x < y)
-        }
+        (x == 0, x, a) < (y == 0, y, b)
     }
 }

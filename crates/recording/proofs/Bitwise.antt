@@ -1,22 +1,26 @@
 -- Numbers and their bits: each gives the other back.
-use Rattle.std.proofs.Common.{◌≡◌, ℕ, zero, suc, ◌+◌, ◌-◌, ◌*◌, ◌/◌, ◌^◌, ◌<◌, ◌≤◌, List, [], ◌∷◌, ◌++◌, length, take, refl, ap, ◌∙◌, suc-mul, pow-suc, add-one, arith, pow_mono}
+use Rattle.std.proofs.Common.{◌≡◌, ℕ, zero, suc, ◌+◌, ◌-◌, ◌*◌, ◌/◌, ◌^◌, ◌<◌, ◌≤◌, List, [], ◌∷◌, ◌++◌, length, take, refl, ap, ◌∙◌, suc-mul, pow-suc, arith, lit<}
 use Rattle.std.proofs.lemmas.List.{get_or-take}
-use Rattle.recording.specs.Bits.{bit_of, number_at, numbers_at}
+use native.Mathlib.Nat.{zero-div}
+use Rattle.recording.specs.Bits.{bit_in, bit_of, number_at, numbers_at}
 
-pub number_none : (b : ℕ → ℕ) (i : ℕ) → 0 ≡ number_at b i 0
+-- the number in the bits from i to k, and one bit more, which is bit k
+pub number_none : (b : ℕ → ℕ) (i : ℕ) → 0 ≡ number_at b i (i - i)
 unfolding number_at
-number_none b i = refl
+number_none b i = let z : i - i ≡ 0 = omega arith in rw z refl
 
-pub number_more : (b : ℕ → ℕ) (i k v : ℕ) → v ≡ number_at b i k → v * 2 + b (i + k) ≡ number_at b i (k + 1)
+pub bit_none : (i : ℕ) → 0 < 2 ^ (i - i)
+bit_none i = let z : i - i ≡ 0 = omega arith in rw z (lit< tt)
+
+pub number_more : (b : ℕ → ℕ) (i k v d : ℕ) → i ≤ k → v ≡ number_at b i (k - i) → d ≡ b k → v * 2 + d ≡ number_at b i (k + 1 - i)
 unfolding number_at
-number_more b i k v e = rw (add-one k) (ap (λ n. n * 2 + b (i + k)) e)
+number_more b i k v d h e f =
+    let next : k + 1 - i ≡ suc (k - i) = omega arith in
+    let at : i + (k - i) ≡ k = omega arith in
+    rw (next, at) (ap (λ n. n * 2 + d) e ∙ ap (λ n. number_at b i (k - i) * 2 + n) f)
 
--- one bit more at the end of a number of k bits, which still fits sixteen
-pub bit_more : (k v d : ℕ) → v < 2 ^ k → d < 2 → v * 2 + d < 2 ^ (k + 1)
-bit_more k v d h l = rw (add-one k, pow-suc) (omega arith)
-
-pub fits_16 : (k v : ℕ) → k < 16 → v < 2 ^ (k + 1) → v < 65536
-fits_16 k v h l = let l16 : k + 1 ≤ 16 = omega arith in let p : 2 ^ (k + 1) ≤ 2 ^ 16 = pow_mono l16 in omega arith
+pub bit_more : (i k v d : ℕ) → i ≤ k → v < 2 ^ (k - i) → d < 2 → v * 2 + d < 2 ^ (k + 1 - i)
+bit_more i k v d h l b = let next : k + 1 - i ≡ suc (k - i) = omega arith in rw (next, pow-suc) (omega arith)
 
 pub number_same : (b c : ℕ → ℕ) (i j n : ℕ) → ((k : ℕ) → k < n → b (i + k) ≡ c (j + k)) → number_at b i n ≡ number_at c j n
 unfolding number_at
@@ -70,3 +74,7 @@ numbers_push b w i zero = let e : i ≡ i + 0 * w = omega arith in ap (λ (j : �
 numbers_push b w i (suc n) =
     let e : i + w + n * w ≡ i + suc n * w = rw (suc-mul n w) (omega arith) in
     ap (λ (ys : List ℕ). number_at b i w ∷ ys) (numbers_push b w (i + w) n ∙ ap (λ (j : ℕ). numbers_at b w (i + w) n ++ number_at b j w ∷ []) e)
+
+-- zero has no bit that is set
+pub zero_bit : (w i : ℕ) → bit_in w 0 i ≡ 0
+zero_bit w i = rw (zero-div (2 ^ (w - 1 - i)))

@@ -1,5 +1,5 @@
 -- What the reader takes from the bytes of a recording, and what the questions about its layout come to.
-use Rattle.std.proofs.Common.{◌≡◌, ℕ, ◌+◌, ◌-◌, ◌*◌, ◌<◌, ◌≤◌, min, true, false, cond, ◌&&◌, eqb, leb, ◌⊎◌, List, length, take, is_ok, Ok, Err, Result, sym, ap, ◌∙◌, ⊎_elim, arith}
+use Rattle.std.proofs.Common.{◌≡◌, ℕ, ◌+◌, ◌*◌, ◌<◌, ◌≤◌, min, true, false, cond, ◌&&◌, eqb, leb, ◌⊎◌, List, length, take, is_ok, Ok, Err, Result, sym, ap, ◌∙◌, ⊎_elim, arith}
 use Rattle.std.proofs.lemmas.List.{length-take}
 use Rattle.std.proofs.lemmas.Bool.{cases_Bool, le-leb, lt-leb, leb-true, eq-eqb, ne_eqb, and_left, and_right}
 use Rattle.paging.specs.declared.refusal.Refusal.TheVariants.{TooShort, BadHeader, TooManyReferences}
@@ -16,12 +16,12 @@ taken_ok xs i n v e = ⊎_elim
     (cases_Bool (leb (i + n) (length xs * 8)))
 
 -- the same from the first three bytes
-pub front_ok : (bytes part : List ℕ) (len i n v : ℕ) → part ≡ take (len - 0) bytes → len ≡ min (length bytes) 3 → i + n ≤ 24 → taken part i n ≡ Ok v → (v ≡ number_at (bit_of 8 bytes) i n) × (i + n ≤ length bytes * 8)
+pub front_ok : (bytes part : List ℕ) (len i n v : ℕ) → part ≡ take len bytes → len ≡ min (length bytes) 3 → i + n ≤ 24 → taken part i n ≡ Ok v → (v ≡ number_at (bit_of 8 bytes) i n) × (i + n ≤ length bytes * 8)
 front_ok bytes part len i n v is l h e =
     let r = taken_ok part i n v e in
-    let lp : length part ≡ min (len - 0) (length bytes) = ap length is ∙ length-take (len - 0) bytes in
-    let f : number_at (bit_of 8 part) i n ≡ number_at (bit_of 8 (take (len - 0) bytes)) i n = ap (λ (xs : List ℕ). number_at (bit_of 8 xs) i n) is in
-    let g = number_take bytes (len - 0) i n (omega arith) in
+    let lp : length part ≡ min len (length bytes) = ap length is ∙ length-take len bytes in
+    let f : number_at (bit_of 8 part) i n ≡ number_at (bit_of 8 (take len bytes)) i n = ap (λ (xs : List ℕ). number_at (bit_of 8 xs) i n) is in
+    let g = number_take bytes len i n (omega arith) in
     (r.0 ∙ f ∙ g, omega arith)
 
 -- where the reader stands after a number was taken

@@ -1,7 +1,7 @@
 -- Names looked up one by one: what a list, its memory and the codes come to.
-use Rattle.std.proofs.Common.{◌≡◌, ℕ, suc, ◌+◌, ◌-◌, ◌*◌, ◌^◌, ◌<◌, ◌≤◌, Bool, true, false, cond, not, ◌||◌, ltb, List, [], ◌∷◌, ◌++◌, map, length, take, drop, set, Ok, Err, Result, sym, refl, ap, ◌∙◌, ⊎_elim, add-mul, arith}
-use Rattle.std.proofs.lemmas.List.{length-map, length-set, length-take-le, append_assoc, append-nil, drop_more, map_push, set_at, take_more_set}
-use Rattle.std.proofs.lemmas.Bool.{cases_Bool, cond-true, cond-false, and_right, and_parts, or_parts, le-ltb, ltb-true, ltb-false}
+use Rattle.std.proofs.Common.{◌≡◌, ℕ, suc, ◌+◌, ◌-◌, ◌*◌, ◌^◌, ◌<◌, ◌≤◌, Bool, true, false, cond, not, ◌||◌, ltb, List, [], ◌∷◌, ◌++◌, map, length, take, drop, set, Ok, Err, Result, sym, refl, ap, ◌∙◌, ⊎_elim, add-mul, suc-le-suc, zero-le, arith}
+use Rattle.std.proofs.lemmas.List.{length-map, length-set, length-take-le, append_assoc, append-nil, drop_more, map_push, set_at, take_all, take-append-drop, drop-append-le, take_more_set}
+use Rattle.std.proofs.lemmas.Bool.{cases_Bool, cond-true, cond-false, cond_both, and_right, and_parts, or_parts, le-ltb, ltb-true, ltb-false}
 use Rattle.paging.specs.declared.refusal.Refusal.{Refusal}
 use Rattle.paging.specs.declared.refusal.Refusal.TheVariants.{NoPlaceForName}
 use Rattle.recording.specs.Bits.{bit_of, number_at, numbers_at}
@@ -9,7 +9,7 @@ use Rattle.names.specs.Lists.{place_in, known, adds, with_name, limit_of, look_a
 use Rattle.recording.specs.Coding.{coded, accepted, codes_before, with_codes, learnt, codes_of, names_of, names_in, coded_answer, with_records, at_place, names_laid, names_recorded, decoded}
 use Rattle.recording.specs.declared.fault.LoadFault.{LoadFault}
 use Rattle.recording.specs.Reading.{by_names, and_then, laid_out}
-use Rattle.recording.proofs.Bitwise.{number_below, bit_below, numbers_more, numbers_none}
+use Rattle.recording.proofs.Bitwise.{number_below, bit_below, numbers_more, numbers_none, length_numbers}
 use Rattle.names.proofs.Places.{length_listed}
 use Rattle.names.proofs.Lookups.{listed_push}
 
@@ -18,8 +18,8 @@ pub record Progress {X : Type 0} (f : X → ℕ) (make : ℕ → X) (w : ℕ) (b
   pub place : at ≡ 24 + i * w
   pub size : length mem ≡ length start
   pub within : k ≤ limit_of (length start)
-  pub sized : length old ≡ 4096
-  pub wide : length codes ≡ 4096
+  pub sized : length old ≡ count
+  pub wide : length codes ≡ length old
   pub memory : mem ≡ map make (listed f mem k) ++ drop k start
   pub untouched : codes ≡ take i codes ++ drop i old
   pub accepted_so : take i codes ++ accepted (limit_of (length start)) (listed f mem k) (numbers_at (bit_of 8 bytes) w at (count - i)) ≡ codes_before (limit_of (length start)) (names_in w bytes count)
@@ -124,10 +124,10 @@ ended f make w bytes count start mem k size within memory names =
     record { counts = c; records = memory ∙ ap (λ (ns : List ℕ). map make ns ++ drop k start) names ∙ ap (λ (j : ℕ). map make all ++ drop j start) c }
 
 -- where no more codes are accepted, those that were stand in front of what the memory of the codes had
-codes_ended : {X : Type 0} (f : X → ℕ) (make : ℕ → X) (w : ℕ) (bytes : List ℕ) (count : ℕ) (start : List X) (old : List ℕ) (i at : ℕ) (mem : List X) (k : ℕ) (codes : List ℕ) → Progress f make w bytes count start old i at mem k codes → i ≤ 4096 → accepted (limit_of (length start)) (listed f mem k) (numbers_at (bit_of 8 bytes) w at (count - i)) ≡ [] → codes ≡ with_codes (codes_before (limit_of (length start)) (names_in w bytes count)) old
+codes_ended : {X : Type 0} (f : X → ℕ) (make : ℕ → X) (w : ℕ) (bytes : List ℕ) (count : ℕ) (start : List X) (old : List ℕ) (i at : ℕ) (mem : List X) (k : ℕ) (codes : List ℕ) → Progress f make w bytes count start old i at mem k codes → i ≤ count → accepted (limit_of (length start)) (listed f mem k) (numbers_at (bit_of 8 bytes) w at (count - i)) ≡ [] → codes ≡ with_codes (codes_before (limit_of (length start)) (names_in w bytes count)) old
 codes_ended f make w bytes count start old i at mem k codes so few none =
     let all : take i codes ≡ codes_before (limit_of (length start)) (names_in w bytes count) = sym (append-nil (take i codes)) ∙ ap (λ (cs : List ℕ). take i codes ++ cs) (sym none) ∙ so.accepted_so in
-    let n : i ≡ length (codes_before (limit_of (length start)) (names_in w bytes count)) = sym (length-take-le i codes (omega (arith, so.wide))) ∙ ap length all in
+    let n : i ≡ length (codes_before (limit_of (length start)) (names_in w bytes count)) = sym (length-take-le i codes (omega (arith, so.wide, so.sized))) ∙ ap length all in
     so.untouched ∙ ap (λ (cs : List ℕ). cs ++ drop i old) all ∙ ap (λ (j : ℕ). codes_before (limit_of (length start)) (names_in w bytes count) ++ drop j old) n
 
 -- one name more
@@ -171,15 +171,15 @@ module _ {X : Type 0} (f : X → ℕ) (make : ℕ → X) (w : ℕ) (back : (n : 
       let ns = listed f mem k in
       ap (λ (s : ℕ). look_answer (limit_of s) ns (f (make n))) so.size ∙ ap (look_answer (limit_of (length start)) ns) number_back
 
-  pub progress_more : (at' : ℕ) (mem' : List X) (k' : ℕ) (codes' : List ℕ) (c : ℕ) → count ≤ 4096 → at' ≡ at + w → mem' ≡ looked_memory f mem k (make (number_at (bit_of 8 bytes) at w)) → k' ≡ looked_count f mem k (make (number_at (bit_of 8 bytes) at w)) → looked_up f mem k (make (number_at (bit_of 8 bytes) at w)) ≡ Ok c → codes' ≡ set codes i c → Progress f make w bytes count start old (i + 1) at' mem' k' codes'
-  progress_more at' mem' k' codes' c most ea em ek el ec =
+  pub progress_more : (at' : ℕ) (mem' : List X) (k' : ℕ) (codes' : List ℕ) (c : ℕ) → at' ≡ at + w → mem' ≡ looked_memory f mem k (make (number_at (bit_of 8 bytes) at w)) → k' ≡ looked_count f mem k (make (number_at (bit_of 8 bytes) at w)) → looked_up f mem k (make (number_at (bit_of 8 bytes) at w)) ≡ Ok c → codes' ≡ set codes i c → Progress f make w bytes count start old (i + 1) at' mem' k' codes'
+  progress_more at' mem' k' codes' c ea em ek el ec =
       let n = number_at (bit_of 8 bytes) at w in
       let ns = listed f mem k in
       let limit = limit_of (length start) in
       let rest = numbers_at (bit_of 8 bytes) w at' (count - (i + 1)) in
       let q = looked_more mem' k' em ek in
       let o = looked_ok limit ns n c (sym answer_is ∙ el) in
-      let wide : i < length codes = omega (arith, so.wide) in
+      let wide : i < length codes = omega (arith, so.wide, so.sized) in
       let written : take (i + 1) codes' ≡ take i codes ++ place_in ns n ∷ [] = ap (take (i + 1)) ec ∙ take_more_set codes i c wide ∙ ap (λ (r : ℕ). take i codes ++ r ∷ []) o.1 in
       let row : numbers_at (bit_of 8 bytes) w at (count - i) ≡ n ∷ rest = numbers_more (bit_of 8 bytes) w at i count turn ∙ ap (λ (j : ℕ). n ∷ numbers_at (bit_of 8 bytes) w j (count - (i + 1))) (sym ea) in
       let lt : length (take i codes) ≡ i = length-take-le i codes (omega arith) in
@@ -198,8 +198,8 @@ module _ {X : Type 0} (f : X → ℕ) (make : ℕ → X) (w : ℕ) (back : (n : 
         learnt_so = ap (λ (xs : List ℕ). learnt limit xs rest) q.names ∙ sym (learnt_more limit ns n rest) ∙ ap (learnt limit ns) (sym row) ∙ so.learnt_so;
       }
 
-  pub progress_refused : (mem' : List X) (k' : ℕ) (r : Refusal) → count ≤ 4096 → mem' ≡ looked_memory f mem k (make (number_at (bit_of 8 bytes) at w)) → k' ≡ looked_count f mem k (make (number_at (bit_of 8 bytes) at w)) → looked_up f mem k (make (number_at (bit_of 8 bytes) at w)) ≡ Err r → (Err (by_names r (i + 1)) ≡ coded_answer (codes_of (limit_of (length start)) (names_in w bytes count))) × Ended make w bytes count start mem' k' × (codes ≡ with_codes (codes_before (limit_of (length start)) (names_in w bytes count)) old)
-  progress_refused mem' k' r most em ek el =
+  pub progress_refused : (mem' : List X) (k' : ℕ) (r : Refusal) → mem' ≡ looked_memory f mem k (make (number_at (bit_of 8 bytes) at w)) → k' ≡ looked_count f mem k (make (number_at (bit_of 8 bytes) at w)) → looked_up f mem k (make (number_at (bit_of 8 bytes) at w)) ≡ Err r → (Err (by_names r (i + 1)) ≡ coded_answer (codes_of (limit_of (length start)) (names_in w bytes count))) × Ended make w bytes count start mem' k' × (codes ≡ with_codes (codes_before (limit_of (length start)) (names_in w bytes count)) old)
+  progress_refused mem' k' r em ek el =
       let n = number_at (bit_of 8 bytes) at w in
       let ns = listed f mem k in
       let limit = limit_of (length start) in
@@ -207,7 +207,7 @@ module _ {X : Type 0} (f : X → ℕ) (make : ℕ → X) (w : ℕ) (back : (n : 
       let q = looked_more mem' k' em ek in
       let o = looked_err limit ns n r (sym answer_is ∙ el) in
       let row = numbers_more (bit_of 8 bytes) w at i count turn in
-      let lc : suc (length (take i codes)) ≡ i + 1 = omega (arith, length-take-le i codes (omega (arith, so.wide))) in
+      let lc : suc (length (take i codes)) ≡ i + 1 = omega (arith, length-take-le i codes (omega (arith, so.wide, so.sized))) in
       let refused : codes_of limit (names_in w bytes count) ≡ Err (i + 1) = sym so.coded_so ∙ ap (coded limit ns (take i codes)) row ∙ coded_more limit ns (take i codes) n rest ∙ cond-false _ _ _ o.0 ∙ ap Err lc in
       let all : ns ≡ names_of limit (names_in w bytes count) = sym (learnt_full limit ns (n ∷ rest) o.2) ∙ ap (learnt limit ns) (sym row) ∙ so.learnt_so in
       let none : accepted limit ns (numbers_at (bit_of 8 bytes) w at (count - i)) ≡ [] = ap (accepted limit ns) row ∙ accepted_more limit ns n rest ∙ cond-false _ _ _ o.0 in
@@ -215,33 +215,33 @@ module _ {X : Type 0} (f : X → ℕ) (make : ℕ → X) (w : ℕ) (back : (n : 
       (ap (λ (e : Refusal). Err (by_names e (i + 1))) o.1 ∙ ap coded_answer (sym refused), ended f make w bytes count start mem' k' q.size q.within q.memory (q.names ∙ same ∙ all), codes_ended f make w bytes count start old i at mem k codes so (omega arith) none)
 
   -- the same, with what the reader holds and the refusal by its place
-  module _ (read : List ℕ) (er : read ≡ bytes) (most : count ≤ 4096) (mem' : List X) (k' : ℕ) (em : mem' ≡ looked_memory f mem k (make (number_at (bit_of 8 read) at w))) (ek : k' ≡ looked_count f mem k (make (number_at (bit_of 8 read) at w))) where
+  module _ (read : List ℕ) (er : read ≡ bytes) (mem' : List X) (k' : ℕ) (em : mem' ≡ looked_memory f mem k (make (number_at (bit_of 8 read) at w))) (ek : k' ≡ looked_count f mem k (make (number_at (bit_of 8 read) at w))) where
     en : number_at (bit_of 8 read) at w ≡ number_at (bit_of 8 bytes) at w
     en = ap (λ (bs : List ℕ). number_at (bit_of 8 bs) at w) er
 
-    pub turn_more : (at' : ℕ) (codes' : List ℕ) (c : ℕ) → at' ≡ at + w → at_place (i + 1) (looked_up f mem k (make (number_at (bit_of 8 read) at w))) ≡ Ok c → codes' ≡ set codes i c → Progress f make w bytes count start old (i + 1) at' mem' k' codes'
-    turn_more at' codes' c ea el ec =
-        progress_more at' mem' k' codes' c most ea
+    pub turn_more : (at' : ℕ) (codes' : List ℕ) (c : ℕ) (r : Result ℕ LoadFault) → at' ≡ at + w → r ≡ at_place (i + 1) (looked_up f mem k (make (number_at (bit_of 8 read) at w))) → r ≡ Ok c → codes' ≡ set codes i c → Progress f make w bytes count start old (i + 1) at' mem' k' codes'
+    turn_more at' codes' c r ea er' el ec =
+        progress_more at' mem' k' codes' c ea
         (em ∙ ap (λ n. looked_memory f mem k (make n)) en) (ek ∙ ap (λ n. looked_count f mem k (make n)) en)
-        (placed_ok _ _ _ (ap (λ n. at_place (i + 1) (looked_up f mem k (make n))) (sym en) ∙ el)) ec
+        (placed_ok _ _ _ (ap (λ n. at_place (i + 1) (looked_up f mem k (make n))) (sym en) ∙ sym er' ∙ el)) ec
 
-    pub turn_refused : (e : LoadFault) → at_place (i + 1) (looked_up f mem k (make (number_at (bit_of 8 read) at w))) ≡ Err e → (Err e ≡ coded_answer (codes_of (limit_of (length start)) (names_in w bytes count))) × Ended make w bytes count start mem' k' × (codes ≡ with_codes (codes_before (limit_of (length start)) (names_in w bytes count)) old)
-    turn_refused e el =
-        let r = placed_err _ _ _ (ap (λ n. at_place (i + 1) (looked_up f mem k (make n))) (sym en) ∙ el) in
-        let q = progress_refused mem' k' r.0 most (em ∙ ap (λ n. looked_memory f mem k (make n)) en) (ek ∙ ap (λ n. looked_count f mem k (make n)) en) r.1 in
-        (ap Err r.2 ∙ q.0, q.1, q.2)
+    pub turn_refused : (e : LoadFault) (r : Result ℕ LoadFault) → r ≡ at_place (i + 1) (looked_up f mem k (make (number_at (bit_of 8 read) at w))) → r ≡ Err e → (Err e ≡ coded_answer (codes_of (limit_of (length start)) (names_in w bytes count))) × Ended make w bytes count start mem' k' × (codes ≡ with_codes (codes_before (limit_of (length start)) (names_in w bytes count)) old)
+    turn_refused e r er' el =
+        let s = placed_err _ _ _ (ap (λ n. at_place (i + 1) (looked_up f mem k (make n))) (sym en) ∙ sym er' ∙ el) in
+        let q = progress_refused mem' k' s.0 (em ∙ ap (λ n. looked_memory f mem k (make n)) en) (ek ∙ ap (λ n. looked_count f mem k (make n)) en) s.1 in
+        (ap Err s.2 ∙ q.0, q.1, q.2)
 
 -- no name is left
-module _ {X : Type 0} (f : X → ℕ) (make : ℕ → X) (w : ℕ) (bytes : List ℕ) (count : ℕ) (start : List X) (old : List ℕ) (i at : ℕ) (mem : List X) (k : ℕ) (codes : List ℕ) (so : Progress f make w bytes count start old i at mem k codes) (most : count ≤ 4096) (is : i ≡ count) where
-  pub progress_codes : codes_of (limit_of (length start)) (names_in w bytes count) ≡ Ok (take count codes)
+module _ {X : Type 0} (f : X → ℕ) (make : ℕ → X) (w : ℕ) (bytes : List ℕ) (count : ℕ) (start : List X) (old : List ℕ) (i at : ℕ) (mem : List X) (k : ℕ) (codes : List ℕ) (so : Progress f make w bytes count start old i at mem k codes) (is : i ≡ count) where
+  pub progress_codes : codes_of (limit_of (length start)) (names_in w bytes count) ≡ Ok codes
   progress_codes =
       sym so.coded_so
       ∙ ap (coded (limit_of (length start)) (listed f mem k) (take i codes)) (numbers_none (bit_of 8 bytes) w at i count (omega arith))
       ∙ coded_none (limit_of (length start)) (listed f mem k) (take i codes)
-      ∙ ap (λ (n : ℕ). Ok (take n codes)) is
+      ∙ ap Ok (take_all i codes (omega (arith, so.wide, so.sized)))
 
-  pub progress_answer : Ok count ≡ coded_answer (codes_of (limit_of (length start)) (names_in w bytes count))
-  progress_answer = ap Ok (sym (length-take-le count codes (omega (arith, so.wide)))) ∙ ap coded_answer (sym progress_codes)
+  pub progress_answer : Ok (length codes) ≡ coded_answer (codes_of (limit_of (length start)) (names_in w bytes count))
+  progress_answer = ap coded_answer (sym progress_codes)
 
   pub progress_written : codes ≡ with_codes (codes_before (limit_of (length start)) (names_in w bytes count)) old
   progress_written =
@@ -254,10 +254,29 @@ module _ {X : Type 0} (f : X → ℕ) (make : ℕ → X) (w : ℕ) (bytes : List
       ended f make w bytes count start mem k so.size so.within so.memory all
 
 -- a refused layout is the outcome, and leaves both memories as they were
-pub refused_layout : {X : Type 0} (make : ℕ → X) (kind width size : ℕ) (bytes : List ℕ) (start : List X) (old : List ℕ) (k w : ℕ) (e : LoadFault) → k ≡ kind → w ≡ width → laid_out k w bytes ≡ Err e → (Err e ≡ decoded kind width size bytes) × (start ≡ with_records make (names_of (limit_of size) (names_recorded kind width bytes)) start) × (old ≡ with_codes (codes_before (limit_of size) (names_recorded kind width bytes)) old)
-refused_layout {X} make kind width size bytes start old k w e ek ew er =
-    let r : laid_out kind width bytes ≡ Err e = ap (λ (n : ℕ). laid_out n width bytes) (sym ek) ∙ ap (λ (n : ℕ). laid_out k n bytes) (sym ew) ∙ er in
+pub refused_layout : {X : Type 0} (make : ℕ → X) (kind width size : ℕ) (bytes : List ℕ) (start : List X) (old : List ℕ) (e : LoadFault) → laid_out kind width bytes ≡ Err e → (Err e ≡ decoded kind width size bytes) × (start ≡ with_records make (names_of (limit_of size) (names_recorded kind width bytes)) start) × (old ≡ with_codes (codes_before (limit_of size) (names_recorded kind width bytes)) old)
+refused_layout {X} make kind width size bytes start old e r =
     let a : decoded kind width size bytes ≡ Err e = ap (λ (x : Result ℕ LoadFault). and_then x (λ n. coded_answer (codes_of (limit_of size) (names_in width bytes n)))) r in
     let n : names_of (limit_of size) (names_recorded kind width bytes) ≡ [] = ap (λ (x : Result ℕ LoadFault). names_of (limit_of size) (names_laid width bytes x)) r ∙ learnt_none (limit_of size) [] in
     let c : codes_before (limit_of size) (names_recorded kind width bytes) ≡ [] = ap (λ (x : Result ℕ LoadFault). codes_before (limit_of size) (names_laid width bytes x)) r ∙ accepted_none (limit_of size) [] in
     (sym a, ap (λ (ns : List ℕ). with_records make ns start) (sym n), ap (λ (cs : List ℕ). with_codes cs old) (sym c))
+
+-- no more codes are accepted than there are names
+accepted_few : (limit : ℕ) (ns ms : List ℕ) → length (accepted limit ns ms) ≤ length ms
+unfolding accepted
+accepted_few limit ns [] = zero-le
+accepted_few limit ns (m ∷ ms) =
+    cond_both (known ns m || ltb (length ns) limit) (place_in ns m ∷ accepted limit (with_name limit ns m) ms) [] (λ cs. length cs ≤ suc (length ms)) (λ _. suc-le-suc (accepted_few limit (with_name limit ns m) ms)) (λ _. zero-le)
+
+-- codes that were written into the front of a memory
+pub written_in_front : (kind w size size' : ℕ) (bytes : List ℕ) (n : ℕ) (old part : List ℕ) → laid_out kind w bytes ≡ Ok n → size' ≡ size → n ≤ length old →
+    part ≡ with_codes (codes_before (limit_of size') (names_in w bytes (length (take n old)))) (take n old) → part ++ drop n old ≡ with_codes (codes_before (limit_of size) (names_recorded kind w bytes)) old
+written_in_front kind w size size' bytes n old part laid same h e =
+    let l : length (take n old) ≡ n = length-take-le n old h in
+    let names : names_in w bytes (length (take n old)) ≡ names_recorded kind w bytes = ap (names_in w bytes) l ∙ sym (ap (names_laid w bytes) laid) in
+    let cs = codes_before (limit_of size) (names_recorded kind w bytes) in
+    let is : codes_before (limit_of size') (names_in w bytes (length (take n old))) ≡ cs = ap (λ (s : ℕ). codes_before (limit_of s) (names_in w bytes (length (take n old)))) same ∙ ap (codes_before (limit_of size)) names in
+    let few : length cs ≤ length (take n old) = rw (← is) (omega (arith, accepted_few (limit_of size') [] (names_in w bytes (length (take n old))), length_numbers (bit_of 8 bytes) w 24 (length (take n old)))) in
+    ap (λ (xs : List ℕ). xs ++ drop n old) (e ∙ ap (λ (ds : List ℕ). with_codes ds (take n old)) is)
+    ∙ append_assoc cs (drop (length cs) (take n old)) (drop n old)
+    ∙ ap (λ (xs : List ℕ). cs ++ xs) (sym (drop-append-le (length cs) (take n old) (drop n old) few) ∙ ap (drop (length cs)) (take-append-drop n old))

@@ -9,8 +9,8 @@ use Rattle.recording.specs.Reading.{asked, and_then, marked, counted, head, body
 use Rattle.recording.specs.Coding.{names_in}
 use Rattle.recording.specs.Writing.{front_number, recording_bit, recording}
 use Rattle.recording.specs.Standing.{Below, Laid}
-use Rattle.recording.proofs.Bitwise.{number_below, bit_below, number_same, length_numbers}
-use Rattle.recording.proofs.Written.{zero_bit, recording_bit_below}
+use Rattle.recording.proofs.Bitwise.{number_below, bit_below, number_same, length_numbers, zero_bit}
+use Rattle.recording.proofs.Written.{recording_bit_below}
 use Rattle.recording.proofs.Rows.{bit_of_number, number_of_bits, number_zero, number_24, getd_numbers, numbers_same, row_of_bits, bits_of_row}
 
 -- a question was answered with yes

@@ -1,5 +1,6 @@
 -- The recording of a row of names, bit by bit, and what encoding answers and leaves. Assumes nothing.
-use Rattle.std.specs.Prelude.{ℕ, ◌+◌, ◌-◌, ◌*◌, Bool, true, cond, ◌&&◌, List, [], ◌∷◌, ◌++◌, map, length, drop, Ok, Err, Result, nat_lt, slice_index}
+use Rattle.std.specs.Prelude.{ℕ, ◌+◌, ◌-◌, ◌*◌, Bool, cond, List, ◌++◌, map, length, drop, Ok, Err, Result, nat_lt, slice_index}
+use Rattle.std.specs.List.{list_all}
 use Rattle.paging.specs.declared.refusal.Refusal.{Refusal}
 use Rattle.paging.specs.declared.refusal.Refusal.TheVariants.{CodeWithoutName, OutputTooShort}
 use Rattle.recording.specs.Bits.{bit_in, bit_of, numbers_at}
@@ -23,8 +24,7 @@ named_by ns cs = map (λ c. slice_index ns c) cs
 
 -- whether every code has a name in a list of n names
 abbrev pub all_named : ℕ → List ℕ → Bool
-all_named n [] = true
-all_named n (c ∷ cs) = nat_lt c n && all_named n cs
+all_named n cs = list_all (λ c. nat_lt c n) cs
 
 -- encoding the codes cs with the names ns into so much memory
 abbrev pub encoded : ℕ → List ℕ → List ℕ → ℕ → Result ℕ Refusal

@@ -6,8 +6,8 @@ ghost use Rattle.names.specs.Lists.{limit_of, looked_count, looked_memory, looke
 ghost use Rattle.recording.specs.Reading.{bytes_for};
 ghost use Rattle.recording.specs.Writing.{all_named};
 
-use crate::fault::{Layer, LoadFault};
-use crate::layout::checked_layout;
+use crate::fault::LoadFault;
+use crate::layout::{FRONT, checked_layout};
 use crate::reader::Reader;
 use names::list::NameList;
 use names::name::Name;
@@ -27,39 +27,32 @@ fn next_code<N: Name + Copy>(
     ensures lender { list.new.memory.ghost_name ≡ list.old.memory.ghost_name }
 {
     let number = reader.take(N::bit_width())?;
-    match list.look_up(N::from_bits(number)) {
-        Ok(code) => Ok(code),
-        Err(refusal) => Err(LoadFault {
-            refusal,
-            layer: Layer::Names,
-            place,
-        }),
-    }
+    list.look_up(N::from_bits(number))
+        .map_err(|refusal| LoadFault::by_names(refusal, place))
 }
 
-// Looks up the names of a recording that counts so many, and writes their codes: the count.
+// Looks up the names of a recording that counts as many as the memory of their codes has, and writes the codes.
 fn read_names<N: Name + Copy>(
     bytes: &[u8],
-    count: usize,
     list: &mut NameList<N>,
-    codes: &mut [u8; 4096],
+    codes: &mut [u8],
 ) -> Result<usize, LoadFault>
-    requires most { count ≤ 4096 }
-    requires whole { length bytes.now ≡ bytes_for N.width count }
+    requires most { length codes.old ≤ 4096 }
+    requires whole { length bytes.now ≡ bytes_for N.width (length codes.old) }
     requires empty { list.old.count ≡ 0 }
-    ensures answer { result ≡ coded_answer (codes_of (limit_of (length list.old.memory.now)) (names_in N.width bytes.now count)) }
-    ensures codes { IfOk result (λ n. codes_of (limit_of (length list.old.memory.now)) (names_in N.width bytes.now count) ≡ Ok (take n codes.new)) }
-    ensures named { IfOk result (λ n. all_named list.new.count (take n codes.new) ≡ true) }
-    ensures written { codes.new ≡ with_codes (codes_before (limit_of (length list.old.memory.now)) (names_in N.width bytes.now count)) codes.old }
-    ensures count { list.new.count ≡ length (names_of (limit_of (length list.old.memory.now)) (names_in N.width bytes.now count)) }
-    ensures memory { list.new.memory.now ≡ with_records N.named (names_of (limit_of (length list.old.memory.now)) (names_in N.width bytes.now count)) list.old.memory.now }
+    ensures answer { result ≡ coded_answer (codes_of (limit_of (length list.old.memory.now)) (names_in N.width bytes.now (length codes.old))) }
+    ensures codes { IfOk result (λ n. codes_of (limit_of (length list.old.memory.now)) (names_in N.width bytes.now (length codes.old)) ≡ Ok codes.new) }
+    ensures named { IfOk result (λ _. all_named list.new.count codes.new ≡ true) }
+    ensures written { codes.new ≡ with_codes (codes_before (limit_of (length list.old.memory.now)) (names_in N.width bytes.now (length codes.old))) codes.old }
+    ensures count { list.new.count ≡ length (names_of (limit_of (length list.old.memory.now)) (names_in N.width bytes.now (length codes.old))) }
+    ensures memory { list.new.memory.now ≡ with_records N.named (names_of (limit_of (length list.old.memory.now)) (names_in N.width bytes.now (length codes.old))) list.old.memory.now }
     ensures lender { list.new.memory.ghost_name ≡ list.old.memory.ghost_name }
 {
-    let mut reader = Reader { bytes, at: 24 };
-    for i in 0..count {
-        codes[i] = next_code(&mut reader, list, i + 1)?;
+    let mut reader = Reader { bytes, at: FRONT };
+    for (i, code) in codes.iter_mut().enumerate() {
+        *code = next_code(&mut reader, list, i + 1)?;
     }
-    Ok(count)
+    Ok(codes.len())
 }
 
 /// Decodes a recording: empties the list, looks up each name in it, and writes the codes. It answers how many.
@@ -80,8 +73,9 @@ pub fn decode<N: Name + Copy>(
     ensures lender { list.new.memory.ghost_name ≡ list.old.memory.ghost_name }
 {
     list.clear();
-    let count = checked_layout(bytes, N::kind_number(), N::bit_width())?;
-    let answer = read_names(bytes, count, list, codes);
+    let count = checked_layout::<N>(bytes)?;
+    let answer = read_names(bytes, list, &mut codes[..count]);
+    // Tried with inspect_err: the proof then knows nothing of the list that its closure clears.
     if answer.is_err() {
         list.clear();
     }

@@ -1,79 +1,76 @@
 //! The layout of a recording: version, kind, zero bits, count, names, and zero bits up to a full byte.
 ghost use Rattle.std.specs.Prelude.{◌≡◌, ◌≤◌};
-ghost use Rattle.recording.specs.Reading.{body, by_bytes, bytes_for, head, laid_out};
+ghost use Rattle.recording.specs.Reading.{body, bytes_for, head, laid_out};
 
-use crate::fault::{Layer, LoadFault};
+use crate::fault::LoadFault;
 use crate::reader::Reader;
+use names::name::Name;
 use paging::refusal::Refusal;
 
-/// The most references that a recording may count.
+/// The version of this layout.
+pub const VERSION: u16 = 1;
+
+/// How many bits stand before the names.
+pub const FRONT: usize = 24;
+
+// How many bytes these are.
+const FRONT_BYTES: usize = 3;
+
+// The most references that a recording may count.
 const MOST: u16 = 4096;
 
-// A refusal by the bytes.
-fn refused(refusal: Refusal, place: usize) -> LoadFault
-    ensures { result ≡ by_bytes refusal place }
+// The count in the first three bytes, which have to be those of a recording of the kind.
+pub fn header<N: Name>(bytes: &[u8]) -> Result<usize, LoadFault>
+    ensures { result ≡ head N.kind bytes.now }
 {
-    LoadFault {
-        refusal,
-        layer: Layer::Bytes,
-        place,
-    }
-}
-
-/// The count in the first three bytes, which have to be those of a recording of the kind.
-pub fn header(bytes: &[u8], kind: u16) -> Result<usize, LoadFault>
-    ensures { result ≡ head kind bytes.now }
-{
-    let len = bytes.len().min(3);
+    let front = &bytes[..bytes.len().min(FRONT_BYTES)];
     let mut reader = Reader {
-        bytes: &bytes[0..len],
+        bytes: front,
         at: 0,
     };
     let version = reader.take(4)?;
-    let own_kind = reader.take(2)?;
+    let kind = reader.take(2)?;
     let zero = reader.take(2)?;
     let count = reader.take(16)?;
-    if version != 1 || own_kind != kind || zero != 0 {
-        return Err(refused(Refusal::BadHeader, 0));
+    if version != VERSION || kind != N::kind_number() || zero != 0 {
+        return Err(LoadFault::by_bytes(Refusal::BadHeader, 0));
     }
     if count > MOST {
-        return Err(refused(Refusal::TooManyReferences, 1));
+        return Err(LoadFault::by_bytes(Refusal::TooManyReferences, 1));
     }
     Ok(count as usize)
 }
 
 /// How many bytes a recording of so many names has.
-pub fn bytes_for(width: usize, count: usize) -> usize
-    requires width { width ≤ 16 }
-    requires count { count ≤ 4096 }
-    ensures { result ≡ bytes_for width count }
+pub fn bytes_for<N: Name>(count: usize) -> usize
+    requires { count ≤ 4096 }
+    ensures { result ≡ bytes_for N.width count }
 {
-    3 + (count * width + 7) / 8
+    FRONT_BYTES + (count * N::bit_width()).div_ceil(8)
 }
 
 // Whether length and spare bits are those of a recording of so many names: the count.
-fn checked_body(bytes: &[u8], width: usize, count: usize) -> Result<usize, LoadFault>
-    requires width { width ≤ 16 }
-    requires count { count ≤ 4096 }
-    ensures { result ≡ body width bytes.now count }
+fn checked_body<N: Name>(bytes: &[u8], count: usize) -> Result<usize, LoadFault>
+    requires { count ≤ 4096 }
+    ensures { result ≡ body N.width bytes.now count }
 {
-    let needed = bytes_for(width, count);
+    let needed = bytes_for::<N>(count);
     if bytes.len() != needed {
-        return Err(refused(Refusal::WrongLength, bytes.len().min(needed)));
+        let place = bytes.len().min(needed);
+        return Err(LoadFault::by_bytes(Refusal::WrongLength, place));
     }
-    let used = 24 + count * width;
+    let used = FRONT + count * N::bit_width();
     let mut reader = Reader { bytes, at: used };
     if reader.take(needed * 8 - used)? != 0 {
-        return Err(refused(Refusal::SpareBitsSet, needed - 1));
+        return Err(LoadFault::by_bytes(Refusal::SpareBitsSet, needed - 1));
     }
     Ok(count)
 }
 
-/// The count of a recording that is laid out as one of the kind, whose names have so many bits.
-pub fn checked_layout(bytes: &[u8], kind: u16, width: usize) -> Result<usize, LoadFault>
-    requires { width ≤ 16 }
-    ensures { result ≡ laid_out kind width bytes.now }
+/// The count of a recording that is laid out as one of the kind.
+pub fn checked_layout<N: Name>(bytes: &[u8]) -> Result<usize, LoadFault>
+    ensures { result ≡ laid_out N.kind N.width bytes.now }
 {
-    let count = header(bytes, kind)?;
-    checked_body(bytes, width, count)
+    let count = header::<N>(bytes)?;
+    checked_body::<N>(bytes, count)
 }

@@ -1,6 +1,7 @@
-//! Recordings: names, name lists over provided memory, and the packed form of a row of names.
+//! Recordings: the packed form of a row of names.
 #![tactic(auto)]
 
+mod bits;
 pub mod decode;
 pub mod encode;
 pub mod fault;

@@ -2,12 +2,14 @@
 ghost use Rattle.std.specs.Prelude.{◌≡◌, ◌+◌, ◌≤◌, length, is_ok, if◌then◌else◌};
 ghost use Rattle.recording.specs.Reading.{taken};
 
-use crate::fault::{Layer, LoadFault};
+use crate::bits::{bit_in, number_at};
+use crate::fault::LoadFault;
 use paging::refusal::Refusal;
 
 /// Reads the bits of a row of bytes, of which it has read `at` so far.
 #[derive(Drop)]
 pub struct Reader<'a> {
+    // The bytes and a place in bits: an iterator over bytes would split them at no bit.
     pub bytes: &'a [u8],
     pub at: usize,
     ghost short: { length bytes.now ≤ 8195 },
@@ -22,18 +24,11 @@ impl Reader<'_> {
         ensures at { self.new.at ≡ (if is_ok result then self.old.at + n else self.old.at) }
         ensures bytes { self.new.bytes.now ≡ self.old.bytes.now }
     {
-        if self.at + n > self.bytes.len() * 8 {
-            return Err(LoadFault {
-                refusal: Refusal::TooShort,
-                layer: Layer::Bytes,
-                place: self.bytes.len(),
-            });
+        let bytes = self.bytes;
+        if self.at + n > bytes.len() * 8 {
+            return Err(LoadFault::by_bytes(Refusal::TooShort, bytes.len()));
         }
-        let mut number: u16 = 0;
-        for k in 0..n {
-            let i = self.at + k;
-            number = number * 2 + ((self.bytes[i / 8] >> (7 - i % 8)) % 2) as u16;
-        }
+        let number = number_at(|k| bit_in(8, bytes[k / 8] as u32, k % 8), self.at, n);
         self.at += n;
         Ok(number)
     }

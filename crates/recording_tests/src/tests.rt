@@ -1,31 +1,23 @@
-//! Recordings loaded and stored.
+//! Recordings loaded and stored. Refusals are compared by the numbers that callers see.
 use names::list::NameList;
 use names::name::{Page, TaskPage};
 use paging::refusal::Refusal;
+use paging::string::References;
 use recording::decode::decode;
 use recording::encode::encode;
 use recording::fault::{Layer, LoadFault};
 
-// The refusal's number, 1 for the layer of names, and the place.
-fn numbers(answer: Result<usize, LoadFault>) -> (u8, bool, usize) {
-    match answer {
-        Ok(count) => (0, false, count),
-        Err(fault) => {
-            let names = match fault.layer {
-                Layer::Bytes => false,
-                Layer::Names => true,
-            };
-            (fault.refusal.number(), names, fault.place)
-        }
-    }
+// What a fault carries, with the refusal's number.
+fn numbered(fault: LoadFault) -> (u8, Layer, usize) {
+    (fault.refusal.number(), fault.layer, fault.place)
 }
 
 // What decoding answers over so many places of bare pages, at most four.
-fn pages(bytes: &[u8], places: usize) -> (u8, bool, usize) {
+fn pages(bytes: &[u8], places: usize) -> Result<usize, (u8, Layer, usize)> {
     let mut memory = [Page { page: 0 }; 4];
     let mut codes = [0; 4096];
     let mut list = NameList::over(&mut memory[0..places.min(4)]);
-    numbers(decode(bytes, &mut list, &mut codes))
+    decode(bytes, &mut list, &mut codes).map_err(numbered)
 }
 
 #[test]
@@ -41,12 +33,12 @@ fn refusals(rt: HostRuntime) {
     assert_eq!(rt;
         answers,
         [
-            (1, false, 2),
-            (2, false, 0),
-            (3, false, 1),
-            (4, false, 5),
-            (5, false, 4),
-            (6, true, 2),
+            Err((1, Layer::Bytes, 2)),
+            Err((2, Layer::Bytes, 0)),
+            Err((3, Layer::Bytes, 1)),
+            Err((4, Layer::Bytes, 5)),
+            Err((5, Layer::Bytes, 4)),
+            Err((6, Layer::Names, 2)),
         ]
     );
 }
@@ -58,20 +50,17 @@ fn loaded_and_stored(rt: HostRuntime) {
     let mut memory = [Page { page: 9 }; 6];
     let mut codes = [0; 4096];
     let mut list = NameList::over(&mut memory);
-    assert_eq!(rt;
-        numbers(decode(bytes, &mut list, &mut codes)),
-        (0, false, 12)
-    );
+    assert_eq!(rt; decode(bytes, &mut list, &mut codes), Ok(12));
     assert_eq!(rt; list.len(), 5);
     assert_eq!(rt;
         &codes[0..12],
         b"\x00\x01\x02\x03\x00\x01\x04\x00\x01\x02\x03\x04".as_slice()
     );
     let mut out = [7; 22];
-    match encode(&list, &codes[0..12], &mut out) {
-        Ok(len) => assert_eq!(rt; len, 21),
-        Err(refusal) => assert_eq!(rt; refusal.number(), 0),
-    }
+    assert_eq!(rt;
+        encode(&list, &References::new(&codes[0..12]), &mut out),
+        Ok(21)
+    );
     assert_eq!(rt; &out[0..21], bytes.as_slice());
     assert_eq!(rt; out[21], 7);
 }
@@ -82,31 +71,21 @@ fn tasks(rt: HostRuntime) {
     let mut memory = [TaskPage { task: 0, page: 0 }; 2];
     let mut codes = [0; 4096];
     let mut list = NameList::over(&mut memory);
-    assert_eq!(rt;
-        numbers(decode(bytes, &mut list, &mut codes)),
-        (0, false, 3)
-    );
+    assert_eq!(rt; decode(bytes, &mut list, &mut codes), Ok(3));
     assert_eq!(rt; &codes[0..3], b"\x00\x01\x00".as_slice());
     assert_eq!(rt; (memory[0].task, memory[0].page), (15, 1));
     assert_eq!(rt; (memory[1].task, memory[1].page), (1, 1));
-}
-
-// The code, or 100 and the refusal's number.
-fn found(answer: Result<u8, Refusal>) -> u32 {
-    match answer {
-        Ok(code) => code as u32,
-        Err(refusal) => 100 + refusal.number() as u32,
-    }
 }
 
 #[test]
 fn names_are_added_once(rt: HostRuntime) {
     let mut memory = [Page { page: 0 }; 2];
     let mut list = NameList::over(&mut memory);
-    assert_eq!(rt; found(list.look_up(Page { page: 7 })), 0);
-    assert_eq!(rt; found(list.look_up(Page { page: 9 })), 1);
-    assert_eq!(rt; found(list.look_up(Page { page: 4103 })), 0);
-    assert_eq!(rt; found(list.look_up(Page { page: 9 })), 1);
-    assert_eq!(rt; found(list.look_up(Page { page: 8 })), 106);
+    assert_eq!(rt; list.look_up(Page { page: 7 }), Ok(0));
+    assert_eq!(rt; list.look_up(Page { page: 9 }), Ok(1));
+    assert_eq!(rt; list.look_up(Page { page: 4103 }), Ok(0));
+    assert_eq!(rt; list.look_up(Page { page: 9 }), Ok(1));
+    let full = list.look_up(Page { page: 8 }).map_err(Refusal::number);
+    assert_eq!(rt; full, Err(6));
     assert_eq!(rt; list.len(), 2);
 }

@@ -1,153 +1,131 @@
 //! Figures, passes and edges against the plain counts.
-use crate::plain::{Rule, schedule, tallied};
-use crate::rankings::{ByCode, Turned};
-use crate::tally::{Tally, gives, holds_then, refused};
+use crate::comparisons::Comparisons;
+use crate::plain::{Fault, Pages, Schedule};
+use crate::tally::holds_then;
 use evaluator::Trial;
 use paging::refusal::Refusal;
 use ranking::Ranking;
-use ranking::last_reference::LastReference;
-use ranking::next_reference::NextReference;
 use std::alloc::{AllocError, Global};
 
 /// The fault instants and the pulls of a rule at the frame counts 1 to 64.
 #[derive(Drop)]
 pub struct Row {
-    pub instants: [u32; 64],
-    pub pulls: [u32; 64],
+    figures: [(u32, u32); 64],
 }
 
 impl Row {
     /// Counts them in the rule's schedules.
-    pub fn of(heap: Global, rule: Rule, string: &[u8]) -> Result<Row, AllocError> {
-        let mut instants = [0; 64];
-        let mut pulls = [0; 64];
-        for k in 0..64 {
-            let rows = schedule(heap, rule, k as u32 + 1, string)?;
-            let pair = tallied(&rows, string);
-            instants[k] = pair.0;
-            pulls[k] = pair.1;
+    pub fn of<F: Fn(&Fault) -> Result<Pages, AllocError> + Copy>(
+        heap: Global,
+        string: &[u8],
+        rule: F,
+    ) -> Result<Row, AllocError>
+        requires { F.IsAlwaysCallable rule }
+    {
+        let mut figures = [(0, 0); 64];
+        for (frames, place) in (1..=64).zip(figures.iter_mut()) {
+            *place = Schedule::of(heap, frames, string, rule)?.figures();
         }
-        Ok(Row { instants, pulls })
+        Ok(Row { figures })
     }
 
-    /// The first frame count with at most so many fault instants, or 0 for none.
-    fn edge(&self, ceiling: u32) -> u32 {
-        for k in 0..64 {
-            if self.instants[k] <= ceiling {
-                return k as u32 + 1;
-            }
+    /// The fault instants alone.
+    fn instants(&self) -> [u32; 64] {
+        self.figures.map(|figures| figures.0)
+    }
+
+    /// The first frame count with at most so many fault instants, or the number of the refusal that there is none.
+    fn edge(&self, ceiling: u32) -> Result<u32, u8> {
+        let mut counts = (1..=64).zip(self.figures.iter());
+        counts
+            .find(|(_, figures)| figures.0 <= ceiling)
+            .map(|(frames, _)| frames)
+            .ok_or(13)
+    }
+
+    /// Ceilings to try: some fixed ones, and those at and just below the counts of some frame counts.
+    fn ceilings(&self, heap: Global) -> Result<Vec<u32>, AllocError> {
+        let fixed = [0, 1, 5, 100, 4096, u32::MAX].into_iter();
+        let at = [30, 40, 50, 60, 6, 16, 26]
+            .into_iter()
+            .map(|k: usize| self.figures[k].0);
+        let below = [35, 45, 55, 1, 11, 21, 31]
+            .into_iter()
+            .map(|k: usize| self.figures[k].0.saturating_sub(1));
+        fixed.chain(at).chain(below).collect(heap)
+    }
+}
+
+impl Comparisons {
+    /// Figures of a policy at every frame count.
+    pub fn compare_figures(&mut self, letter: char, row: &Row) {
+        for (frames, figures) in (1..=64).zip(row.figures.iter()) {
+            self.figures
+                .compare_answer(self.trial.figures(letter, frames), Ok(*figures));
         }
-        0
     }
 
-    /// A ceiling to try: some fixed ones, and those at and just below the counts of some frame counts.
-    fn ceiling(&self, i: usize) -> u32 {
-        match i {
-            0 => 0,
-            1 => 1,
-            2 => 5,
-            3 => 100,
-            4 => 4096,
-            5 => u32::MAX,
-            _ => {
-                let k = i.wrapping_mul(5) % 64;
-                if i % 2 == 0 {
-                    self.instants[k]
-                } else {
-                    self.instants[k].saturating_sub(1)
-                }
-            }
+    /// Edges for several ceilings.
+    fn compare_edges<A: Fn(&Trial, u32) -> Result<u32, Refusal>, E: Fn(u32) -> Result<u32, u8>>(
+        &mut self,
+        row: &Row,
+        answer: A,
+        expected: E,
+    ) -> Result<(), AllocError>
+        requires answers { A.IsAlwaysCallable answer }
+        requires expects { E.IsAlwaysCallable expected }
+    {
+        for ceiling in row.ceilings(self.heap)? {
+            self.edges
+                .compare_answer(answer(&self.trial, ceiling), expected(ceiling));
         }
+        Ok(())
     }
-}
 
-/// A ranking that can be made anew.
-pub trait Fresh {
-    fn fresh() -> Self;
-}
-
-impl Fresh for LastReference {
-    fn fresh() -> LastReference {
-        LastReference::new()
+    /// The edges of a policy's letter.
+    pub fn compare_policy_edges(&mut self, letter: char, row: &Row) -> Result<(), AllocError> {
+        self.compare_edges(
+            row,
+            |trial, ceiling| trial.edge(letter, ceiling),
+            |ceiling| row.edge(ceiling),
+        )
     }
-}
 
-impl Fresh for NextReference {
-    fn fresh() -> NextReference {
-        NextReference::new()
+    /// FIFO has no edge, whatever its figures are.
+    pub fn compare_no_edges(&mut self, row: &Row) -> Result<(), AllocError> {
+        self.compare_edges(row, |trial, ceiling| trial.edge('F', ceiling), |_| Err(12))
     }
-}
 
-impl Fresh for ByCode {
-    fn fresh() -> ByCode {
-        ByCode {}
+    /// The edges of a ranking.
+    pub fn compare_ranking_edges<R: Ranking + Drop, M: Fn() -> R>(
+        &mut self,
+        row: &Row,
+        make: M,
+    ) -> Result<(), AllocError>
+        requires { M.IsAlwaysCallable make }
+    {
+        self.compare_edges(
+            row,
+            |trial, ceiling| trial.edge_of(make(), ceiling),
+            |ceiling| row.edge(ceiling),
+        )
     }
-}
 
-impl<R: Fresh> Fresh for Turned<R> {
-    fn fresh() -> Turned<R> {
-        Turned { inner: R::fresh() }
+    /// A pass into memory that is too short, one into memory that is longer than need be, and one more with the ranking that
+    /// was told the whole string: no page that is held was told of before the run only, so its numbers are the same.
+    pub fn compare_pass<R: Ranking + Drop>(&mut self, row: &Row, mut ranking: R) {
+        let instants = row.instants();
+        let mut short = [7; 63];
+        let answer = self.trial.pass(&mut ranking, &mut short);
+        self.passes.compare_answer(answer, Err(17));
+        self.passes.note(holds_then(&short, &[], 7));
+        let mut long = [7; 66];
+        self.passes
+            .compare_answer(self.trial.pass(&mut ranking, &mut long), Ok(64));
+        self.passes.note(holds_then(&long, &instants, 7));
+        let mut exact = [0; 64];
+        self.passes
+            .compare_answer(self.trial.pass(&mut ranking, &mut exact), Ok(64));
+        self.passes.note(holds_then(&exact, &instants, 7));
     }
-}
-
-/// Figures at every frame count.
-fn compare_figures(tally: &mut Tally, trial: &Trial, letter: char, row: &Row) {
-    for k in 0..64 {
-        let answer = trial.figures(letter, k as u32 + 1);
-        tally.note(gives(answer, (row.instants[k], row.pulls[k])));
-    }
-}
-
-/// Whether an answer is the edge of the row; FIFO's are refused.
-fn is_edge(answer: Result<u32, Refusal>, row: &Row, ceiling: u32, letter: char) -> bool {
-    if letter == 'F' {
-        return refused(answer, 12);
-    }
-    match row.edge(ceiling) {
-        0 => refused(answer, 13),
-        edge => gives(answer, edge),
-    }
-}
-
-/// The edge of a letter for several ceilings.
-fn compare_edges(tally: &mut Tally, trial: &Trial, letter: char, row: &Row) {
-    for i in 0..20 {
-        let ceiling = row.ceiling(i);
-        tally.note(is_edge(trial.edge(letter, ceiling), row, ceiling, letter));
-    }
-}
-
-/// The figures and the edges of a letter.
-pub fn compare_policy(
-    figures: &mut Tally,
-    edges: &mut Tally,
-    trial: &Trial,
-    letter: char,
-    row: &Row,
-) {
-    compare_figures(figures, trial, letter, row);
-    compare_edges(edges, trial, letter, row);
-}
-
-/// The edge of a ranking for several ceilings.
-pub fn compare_edges_of<R: Ranking + Fresh + Drop>(tally: &mut Tally, trial: &Trial, row: &Row) {
-    for i in 0..20 {
-        let ceiling = row.ceiling(i);
-        tally.note(is_edge(trial.edge_of(R::fresh(), ceiling), row, ceiling, 'R'));
-    }
-}
-
-/// A pass into memory that is too short, one into memory that is longer than need be, and one more with the ranking that
-/// was told the whole string: no page that is held was told of before the run only, so its numbers are the same.
-pub fn compare_pass<R: Ranking + Fresh + Drop>(tally: &mut Tally, trial: &Trial, row: &Row) {
-    let mut ranking = R::fresh();
-    let mut short = [7; 63];
-    tally.note(refused(trial.pass(&mut ranking, &mut short), 17));
-    tally.note(holds_then(&short, &[], 7));
-    let mut long = [7; 66];
-    tally.note(gives(trial.pass(&mut ranking, &mut long), 64));
-    tally.note(holds_then(&long, &row.instants, 7));
-    let mut exact = [0; 64];
-    tally.note(gives(trial.pass(&mut ranking, &mut exact), 64));
-    tally.note(holds_then(&exact, &row.instants, 7));
 }

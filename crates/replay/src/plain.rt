@@ -1,245 +1,216 @@
 //! Paging in the plainest way: what is held at each place, found by looking through the string.
 use std::alloc::{AllocError, Global};
+use std::cmp::Reverse;
+use std::collections::BTreeSet;
 
-/// A set of pages: whether each code is in it.
-pub type Held = [bool; 256];
+/// A set of pages, by their codes.
+pub type Pages = BTreeSet<u8>;
 
-/// Which page goes at a fault, or what is held then.
+/// What a move does with its page.
+// Not the evaluator's own: nothing is shared with what is checked.
+#[derive(Clone, Copy, PartialEq, Eq)]
+pub enum Kind {
+    /// The page goes.
+    Release = 0,
+    /// The page comes.
+    Pull = 1,
+}
+
+/// A page that comes or goes at a place, counted from 1.
 #[derive(Clone, Copy)]
-pub enum Rule {
-    /// The page referenced longest ago goes.
-    Oldest,
-    /// The page referenced last goes.
-    Newest,
-    /// The page referenced again furthest away goes, and of those never referenced again the one with the largest code.
-    Furthest,
-    /// The page with the largest code goes.
-    Largest,
-    /// The page pulled longest ago goes.
-    First,
-    /// The pages whose next references are nearest are held.
-    Nearest,
-    /// Every other page goes.
-    Alone,
+pub struct Move {
+    /// The place.
+    pub place: usize,
+    /// Whether the page comes or goes.
+    pub kind: Kind,
+    /// The page.
+    pub code: u8,
 }
 
-/// The code at a place, counted from 0.
-pub fn code_at(string: &[u8], t: usize) -> u8 {
-    string.get(t).copied().unwrap_or(0)
-}
-
-/// How many pages a set has.
-pub fn count(held: &Held) -> u32 {
-    let mut n = 0u32;
-    for c in 0..256 {
-        if held[c] {
-            n = n.wrapping_add(1);
-        }
-    }
-    n
-}
-
-/// The page of the set that stands furthest back before the place.
-fn oldest(string: &[u8], t: usize, held: &Held) -> u8 {
-    let mut left = *held;
-    let mut page = 0;
-    for back in 1..t.saturating_add(1) {
-        let code = code_at(string, t.wrapping_sub(back));
-        if left[code as usize] {
-            left[code as usize] = false;
-            page = code;
-        }
-    }
-    page
-}
-
-/// The page of the set that stands last before the place.
-fn newest(string: &[u8], t: usize, held: &Held) -> u8 {
-    for back in 1..t.saturating_add(1) {
-        let code = code_at(string, t.wrapping_sub(back));
-        if held[code as usize] {
-            return code;
-        }
-    }
-    0
-}
-
-/// The largest code of the set.
-fn largest(held: &Held) -> u8 {
-    let mut page = 0;
-    for c in 0..256 {
-        if held[c] {
-            page = c as u8;
-        }
-    }
-    page
-}
-
-/// The page of the set that comes last after the place; pages that come no more are later than all others.
-fn furthest(string: &[u8], t: usize, held: &Held) -> u8 {
-    let mut left = *held;
-    let mut page = 0;
-    for i in t..string.len() {
-        let code = code_at(string, i);
-        if left[code as usize] {
-            left[code as usize] = false;
-            page = code;
-        }
-    }
-    if count(&left) > 0 {
-        largest(&left)
-    } else {
-        page
-    }
-}
-
-/// The page of the set with the smallest stamp.
-fn first_stamped(held: &Held, stamps: &[usize; 256]) -> u8 {
-    let mut page = 0;
-    let mut least = usize::MAX;
-    for c in 0..256 {
-        if held[c] && stamps[c] < least {
-            least = stamps[c];
-            page = c as u8;
-        }
-    }
-    page
-}
-
-/// For each code the first place from t on that references it, or the string's length for none.
-fn next_references(string: &[u8], t: usize) -> [usize; 256] {
-    let end = string.len();
-    let mut next = [end; 256];
-    for i in t..string.len() {
-        let code = code_at(string, i) as usize;
-        if next[code] == end {
-            next[code] = i;
-        }
-    }
-    next
-}
-
-/// The pages held and the pages to come from t on, in the order of their next references: each as its place and code.
-fn candidates(
+/// A reference to a page that is not held.
+#[derive(Clone, Copy)]
+pub struct Fault<'a> {
+    /// Where sets are made.
     heap: Global,
-    string: &[u8],
-    t: usize,
-    held: &Held,
-) -> Result<Vec<(usize, u8)>, AllocError> {
-    let next = next_references(string, t);
-    let mut pages = Vec::new(heap);
-    for c in 0..256 {
-        if held[c] || next[c] < string.len() {
-            pages.push((next[c], c as u8))?;
-        }
-    }
-    pages.sort()?;
-    Ok(pages)
+    /// How many pages can be held.
+    frames: usize,
+    /// The references before.
+    before: &'a [u8],
+    /// The page that is referenced.
+    code: u8,
+    /// This reference and those that follow.
+    onward: &'a [u8],
+    /// What is held before.
+    held: &'a Pages,
+    /// The moves that were made before.
+    moves: &'a [Move],
 }
 
-/// The first pages of the candidates, as many as there are frames.
-fn nearest(
-    heap: Global,
-    string: &[u8],
-    t: usize,
-    frames: u32,
-    held: &Held,
-) -> Result<Held, AllocError> {
-    let mut now = [false; 256];
-    for (_, code) in candidates(heap, string, t, held)?
-        .iter()
-        .take(frames as usize)
+impl Fault<'_> {
+    /// The place before at which a page is referenced last.
+    fn last_place(&self, code: u8) -> Option<usize> {
+        self.before.iter().rposition(|c| *c == code)
+    }
+
+    /// How far away a page is referenced next.
+    fn next_place(&self, code: u8) -> Option<usize> {
+        self.onward.iter().position(|c| *c == code)
+    }
+
+    /// Which of the moves before pulled a page last.
+    fn last_pull(&self, code: u8) -> Option<usize> {
+        self.moves
+            .iter()
+            .rposition(|step| step.kind == Kind::Pull && step.code == code)
+    }
+
+    /// What is held then, if the page goes where all frames are full.
+    fn releasing(&self, page: Option<u8>) -> Result<Pages, AllocError> {
+        let mut now = self.held.clone()?;
+        if let Some(code) = page {
+            if now.len() >= self.frames {
+                now.remove(&code);
+            }
+        }
+        now.insert(self.code)?;
+        Ok(now)
+    }
+}
+
+/// The page referenced longest ago goes.
+pub fn oldest(fault: &Fault) -> Result<Pages, AllocError> {
+    let held = fault.held.iter().copied();
+    fault.releasing(held.min_by_key(|code| fault.last_place(*code)))
+}
+
+/// The page referenced last goes.
+pub fn newest(fault: &Fault) -> Result<Pages, AllocError> {
+    let mut past = fault.before.iter().rev().copied();
+    fault.releasing(past.find(|code| fault.held.contains(code)))
+}
+
+/// The page referenced again furthest away goes, and of those never referenced again the one with the largest code.
+pub fn furthest(fault: &Fault) -> Result<Pages, AllocError> {
+    let held = fault.held.iter().copied();
+    fault.releasing(held.min_by_key(|code| (fault.next_place(*code).map(Reverse), Reverse(*code))))
+}
+
+/// The page with the largest code goes.
+pub fn largest(fault: &Fault) -> Result<Pages, AllocError> {
+    fault.releasing(fault.held.last().copied())
+}
+
+/// The page pulled longest ago goes.
+pub fn first(fault: &Fault) -> Result<Pages, AllocError> {
+    let held = fault.held.iter().copied();
+    fault.releasing(held.min_by_key(|code| fault.last_pull(*code)))
+}
+
+/// The pages whose next references are nearest are held: as many as there are frames, of those to come and then of those
+/// held before.
+pub fn nearest(fault: &Fault) -> Result<Pages, AllocError> {
+    let mut now = BTreeSet::new(fault.heap);
+    for code in fault.onward.iter().chain(fault.held.iter()) {
+        if now.len() < fault.frames {
+            now.insert(*code)?;
+        }
+    }
+    Ok(now)
+}
+
+/// Every other page goes.
+pub fn alone(fault: &Fault) -> Result<Pages, AllocError> {
+    BTreeSet::from_array(fault.heap, [fault.code])
+}
+
+/// Adds a move for each page that one set has and the other lacks, by rising codes.
+fn add_moves(
+    moves: &mut Vec<Move>,
+    place: usize,
+    kind: Kind,
+    one: &Pages,
+    other: &Pages,
+) -> Result<(), AllocError> {
+    moves.extend(
+        one.difference(other).map(move |code| Move {
+            place,
+            kind,
+            code: *code,
+        }),
+    )
+}
+
+/// What a rule makes of a string.
+#[derive(Drop)]
+pub struct Schedule {
+    /// At how many places something was pulled.
+    pub instants: u32,
+    /// The pages that came and went, by rising places: at each place those that went, and then those that came, by rising codes.
+    pub moves: Vec<Move>,
+    /// What is held at the end.
+    pub held: Pages,
+}
+
+impl Schedule {
+    /// What is held changes by the rule at each reference to a page that is not held.
+    pub fn of<F: Fn(&Fault) -> Result<Pages, AllocError>>(
+        heap: Global,
+        frames: u32,
+        string: &[u8],
+        rule: F,
+    ) -> Result<Schedule, AllocError>
+        requires { F.IsAlwaysCallable rule }
     {
-        now[*code as usize] = true;
-    }
-    Ok(now)
-}
-
-/// The page that a rule releases at a fault with all frames full.
-fn victim(rule: Rule, string: &[u8], t: usize, held: &Held, stamps: &[usize; 256]) -> u8 {
-    match rule {
-        Rule::Oldest => oldest(string, t, held),
-        Rule::Newest => newest(string, t, held),
-        Rule::Furthest => furthest(string, t, held),
-        Rule::Largest => largest(held),
-        _ => first_stamped(held, stamps),
-    }
-}
-
-/// What is held after a fault.
-fn after_fault(
-    heap: Global,
-    rule: Rule,
-    frames: u32,
-    string: &[u8],
-    t: usize,
-    held: &Held,
-    stamps: &[usize; 256],
-) -> Result<Held, AllocError> {
-    let mut now = match rule {
-        Rule::Alone => [false; 256],
-        Rule::Nearest => nearest(heap, string, t, frames, held)?,
-        _ => *held,
-    };
-    let code = code_at(string, t) as usize;
-    if !now[code] && count(&now) >= frames {
-        now[victim(rule, string, t, held, stamps) as usize] = false;
-    }
-    now[code] = true;
-    Ok(now)
-}
-
-/// The sets held before the first place and at each place.
-pub fn schedule(
-    heap: Global,
-    rule: Rule,
-    frames: u32,
-    string: &[u8],
-) -> Result<Vec<Held>, AllocError> {
-    let mut rows = Vec::new(heap);
-    let mut held = [false; 256];
-    let mut stamps = [0; 256];
-    rows.push(held)?;
-    for t in 0..string.len() {
-        let code = code_at(string, t) as usize;
-        if !held[code] {
-            held = after_fault(heap, rule, frames, string, t, &held, &stamps)?;
-            stamps[code] = t;
+        let mut schedule = Schedule {
+            instants: 0,
+            moves: Vec::new(heap),
+            held: BTreeSet::new(heap),
+        };
+        for (t, code) in string.iter().enumerate() {
+            if !schedule.held.contains(code) {
+                let (before, onward) = string.split_at(t);
+                let now = rule(&Fault {
+                    heap,
+                    frames: frames as usize,
+                    before,
+                    code: *code,
+                    onward,
+                    held: &schedule.held,
+                    moves: &schedule.moves,
+                })?;
+                schedule.change(t + 1, now)?;
+            }
         }
-        rows.push(held)?;
+        Ok(schedule)
     }
-    Ok(rows)
+
+    /// At a fault other pages are held than before.
+    fn change(&mut self, place: usize, now: Pages) -> Result<(), AllocError> {
+        add_moves(&mut self.moves, place, Kind::Release, &self.held, &now)?;
+        add_moves(&mut self.moves, place, Kind::Pull, &now, &self.held)?;
+        self.instants = self.instants.wrapping_add(1);
+        self.held = now;
+        Ok(())
+    }
+
+    /// The fault instants and the pulls.
+    pub fn figures(&self) -> (u32, u32) {
+        let pulls = self
+            .moves
+            .iter()
+            .filter(|step| step.kind == Kind::Pull)
+            .count();
+        (self.instants, count(pulls))
+    }
 }
 
-/// The set at a place; nothing past the end.
-pub fn held_at(rows: &[Held], place: usize) -> Held {
-    match rows.get(place) {
-        Some(held) => *held,
-        None => [false; 256],
-    }
+/// How many different pages there are among the references.
+pub fn different(heap: Global, codes: &[u8]) -> Result<u32, AllocError> {
+    let pages: Pages = codes.iter().copied().collect(heap)?;
+    Ok(count(pages.len()))
 }
 
-/// How many pages one set has that the other lacks.
-pub fn lacking(one: &Held, other: &Held) -> u32 {
-    let mut n = 0u32;
-    for c in 0..256 {
-        if one[c] && !other[c] {
-            n = n.wrapping_add(1);
-        }
-    }
-    n
-}
-
-/// The fault instants and the pulls of a schedule.
-pub fn tallied(rows: &[Held], string: &[u8]) -> (u32, u32) {
-    let mut instants = 0u32;
-    let mut pulls = 0u32;
-    for t in 0..string.len() {
-        let before = held_at(rows, t);
-        if !before[code_at(string, t) as usize] {
-            instants = instants.wrapping_add(1);
-        }
-        pulls = pulls.wrapping_add(lacking(&held_at(rows, t + 1), &before));
-    }
-    (instants, pulls)
+/// A count in 32 bits, as the evaluator gives it.
+fn count(number: usize) -> u32 {
+    u32::try_from(number).unwrap_or(u32::MAX)
 }

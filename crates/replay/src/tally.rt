@@ -1,6 +1,7 @@
 //! Comparisons, and how many of them came out different.
 use paging::refusal::Refusal;
-use std::io;
+use std::alloc::{AllocError, Global};
+use std::fmt;
 
 /// How many comparisons a group made, and how many found a difference.
 #[derive(Drop)]
@@ -26,36 +27,61 @@ impl Tally {
         }
     }
 
-    /// Prints the group's line.
-    pub fn print(&self, rt: &HostRuntime, group: &str) -> io::Result<()> {
-        let compared = self.compared;
-        let different = self.different;
-        println!(rt; "{group}: {compared} comparisons, {different} differences")
+    /// Compares what was found with what was expected.
+    pub fn compare<T: PartialEq + Drop>(&mut self, found: T, expected: T) {
+        self.note(found == expected);
     }
-}
 
-/// Whether a call answered the expected.
-pub fn gives<T: PartialEq + Drop>(answer: Result<T, Refusal>, expected: T) -> bool {
-    match answer {
-        Ok(given) => given == expected,
-        Err(_) => false,
+    /// Compares what a call answered with what was expected. A refusal is expected by its number, since callers see that.
+    pub fn compare_answer<T: PartialEq + Drop>(
+        &mut self,
+        answer: Result<T, Refusal>,
+        expected: Result<T, u8>,
+    ) {
+        self.compare(answer.map_err(Refusal::number), expected);
     }
-}
 
-/// Whether a call was refused with the number.
-pub fn refused<T: Drop>(answer: Result<T, Refusal>, number: u8) -> bool {
-    match answer {
-        Ok(_) => false,
-        Err(refusal) => refusal.number() == number,
-    }
-}
-
-/// Whether memory begins with a row of values and is filled up with one value after it.
-pub fn holds_then<T: PartialEq + Copy>(memory: &[T], row: &[T], fill: T) -> bool {
-    for i in 0..memory.len() {
-        if memory[i] != row.get(i).copied().unwrap_or(fill) {
-            return false;
+    /// Has a call write into memory that just fits the expected values, that has so many places more, and that has one less.
+    pub fn compare_written<T: PartialEq + Copy, F: Fn(&mut [T]) -> Result<usize, Refusal>>(
+        &mut self,
+        heap: Global,
+        fill: T,
+        more: usize,
+        expected: &[T],
+        write: F,
+    ) -> Result<(), AllocError>
+        requires { F.IsAlwaysCallable write }
+    {
+        let fits = expected.len();
+        for room in [fits, fits.saturating_add(more), fits.saturating_sub(1)] {
+            let mut memory = vec![in heap; fill; room]?;
+            let answer = write(memory.as_mut_slice());
+            if room < fits {
+                self.compare_answer(answer, Err(17));
+                self.note(holds_then(&memory, &[], fill));
+            } else {
+                self.compare_answer(answer, Ok(fits));
+                self.note(holds_then(&memory, expected, fill));
+            }
         }
+        Ok(())
     }
-    memory.len() >= row.len()
+}
+
+impl fmt::Display for Tally {
+    fn fmt<W: fmt::Write>(&self, f: &mut fmt::Formatter<W>) -> fmt::Result {
+        write!(
+            f,
+            "{} comparisons, {} differences",
+            self.compared, self.different
+        )
+    }
+}
+
+/// Whether memory begins with the values and is filled up with one value after them.
+pub fn holds_then<T: PartialEq + Copy>(memory: &[T], values: &[T], fill: T) -> bool {
+    match memory.strip_prefix(values) {
+        Some(rest) => rest.iter().all(|value| *value == fill),
+        None => false,
+    }
 }

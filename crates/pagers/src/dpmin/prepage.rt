@@ -1,56 +1,60 @@
 //! The pages that DPMIN holds after a fault.
 ghost use Rattle.std.specs.Prelude.{◌≡◌, ◌<◌, ◌≤◌, length};
 ghost use Rattle.pager.specs.Prepaging.{filled, soon};
+ghost use Rattle.paging.specs.Frames.{frames_of};
 ghost use Rattle.paging.specs.Pages.{nothing, size};
 ghost use Rattle.paging.specs.Policies.{foremost};
 ghost use Rattle.paging.specs.Schedules.{pulled};
 ghost use Rattle.paging.specs.Sets.{pages};
 
 use pager::sets::lacks;
+use paging::held::HeldPages;
 use paging::set::PageSet;
 
-/// Collects the first different pages of the row, at most as many as there are frames. Returns where it stopped.
-fn collect(row: &[u8], frames: u32, new: &mut PageSet) -> usize
-    requires { pages new.old ≡ nothing }
-    ensures set { pages new.new ≡ soon row.now result }
-    ensures small { size (pages new.new) ≤ frames }
+/// Collects the first different pages of the row, as far as frames are free. Returns where it stopped.
+// The promises of this and of `fill` speak of where they stopped; no code asks.
+fn collect(row: &[u8], new: &mut HeldPages) -> usize
+    requires { pages new.old.set ≡ nothing }
+    ensures set { pages new.new.set ≡ soon row.now result }
+    ensures frames { new.new.frames ≡ new.old.frames }
     ensures high { result ≤ length row.now }
-    ensures full { result < length row.now → frames ≤ size (pages new.new) }
+    ensures full { result < length row.now → frames_of new.old.frames ≤ size (pages new.new.set) }
 {
-    let mut end = 0;
-    while end < row.len() && new.len() < frames {
-        new.insert(row[end]);
-        end += 1;
+    for (end, &code) in row.iter().enumerate() {
+        if new.is_full() {
+            return end;
+        }
+        new.insert(code);
     }
-    end
+    row.len()
 }
 
-/// Fills the set up with pages that were held, the lowest code first. Returns the code where it stopped.
-fn fill(held: &PageSet, frames: u32, new: &mut PageSet) -> u32
-    requires { size (pages new.old) ≤ frames }
-    ensures set { pages new.new ≡ filled (pages new.old) result (pages held.now) }
-    ensures small { size (pages new.new) ≤ frames }
-    ensures full { result < 256 → frames ≤ size (pages new.new) }
-    ensures none { frames ≤ size (pages new.old) → result ≡ 0 }
+/// Fills the free frames with pages that were held, the lowest code first. Returns the code where it stopped.
+fn fill(held: &PageSet, new: &mut HeldPages) -> u32
+    ensures set { pages new.new.set ≡ filled (pages new.old.set) result (pages held.now) }
+    ensures frames { new.new.frames ≡ new.old.frames }
+    ensures full { result < 256 → frames_of new.old.frames ≤ size (pages new.new.set) }
+    ensures none { frames_of new.old.frames ≤ size (pages new.old.set) → result ≡ 0 }
 {
-    let mut code = 0;
-    while code < 256 && new.len() < frames {
-        if held.contains(code as u8) {
-            new.insert(code as u8);
+    for code in 0..=u8::MAX {
+        if new.is_full() {
+            return u32::from(code);
         }
-        code += 1;
+        if held.contains(code) {
+            new.insert(code);
+        }
     }
-    code
+    256
 }
 
 /// The first pages of the order, as many as there are frames: of those held and those of the row, by next reference.
-pub(super) fn prepage(row: &[u8], frames: u32, held: &PageSet) -> PageSet
-    ensures set { pages result ≡ foremost frames row.now (pages held.now) }
-    ensures small { size (pages result) ≤ frames }
+pub(super) fn prepage(row: &[u8], held: &HeldPages) -> HeldPages
+    ensures set { pages result.set ≡ foremost (frames_of held.now.frames) row.now (pages held.now.set) }
+    ensures frames { result.frames ≡ held.now.frames }
 {
-    let mut new = PageSet::new();
-    collect(row, frames, &mut new);
-    fill(held, frames, &mut new);
+    let mut new = HeldPages::new(held.frames);
+    collect(row, &mut new);
+    fill(&held.set, &mut new);
     new
 }
 
@@ -59,8 +63,8 @@ pub(super) fn count_new(held: &PageSet, new: &PageSet) -> u32
     ensures { result ≡ pulled (pages held.now) (pages new.now) }
 {
     let mut count = 0;
-    for code in 0..256u32 {
-        if lacks(new, held, code as u8) {
+    for code in 0..=u8::MAX {
+        if lacks(new, held, code) {
             count += 1;
         }
     }

@@ -5,13 +5,13 @@ ghost use Rattle.paging.specs.Pages.{nothing};
 ghost use Rattle.paging.specs.Policies.{dpmin};
 ghost use Rattle.std.specs.Prelude.{◌≡◌};
 ghost use Rattle.paging.specs.Sets.{pages};
-ghost use Rattle.paging.proofs.Foremost.{dpmin_keeps};
+ghost use Rattle.pagers.specs.Laws.{dpmin_law};
 
 use super::DpminPager;
 use super::prepage::{count_new, prepage};
 use pager::Pager;
 use paging::frames::FrameCount;
-use paging::set::PageSet;
+use paging::held::HeldPages;
 
 impl DpminPager {
     /// The pager that holds nothing.
@@ -19,8 +19,8 @@ impl DpminPager {
         ensures holding { dpmin_model result ≡ dpmin (frames_of frames) nothing }
         ensures room { dpmin_room result ≡ frames_of frames }
     {
-        let held = PageSet::new();
-        DpminPager { held, frames }
+        let held = HeldPages::new(frames);
+        DpminPager { held }
     }
 }
 
@@ -29,29 +29,29 @@ impl Pager for DpminPager {
 
     ghost room = { dpmin_room };
 
-    ghost keeps = { λ s. dpmin_keeps (frames_of s.frames) (pages s.held) s.frames.some s.frames.most s.within };
+    ghost keeps = { dpmin_law };
 
     fn frames(&self) -> u32 {
-        self.frames.get()
+        self.held.frames.get()
     }
 
     fn held_count(&self) -> u32 {
-        self.held.len()
+        self.held.set.len()
     }
 
     fn holds(&self, code: u8) -> bool {
-        self.held.contains(code)
+        self.held.set.contains(code)
     }
 
     fn serve(&mut self, row: &[u8]) -> u32 {
-        if row.len() == 0 {
+        let Some(&code) = row.first() else {
+            return 0;
+        };
+        if self.held.set.contains(code) {
             return 0;
         }
-        if self.held.contains(row[0]) {
-            return 0;
-        }
-        let new = prepage(row, self.frames.get(), &self.held);
-        let pulls = count_new(&self.held, &new);
+        let new = prepage(row, &self.held);
+        let pulls = count_new(&self.held.set, &new.set);
         self.held = new;
         pulls
     }

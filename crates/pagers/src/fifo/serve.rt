@@ -1,13 +1,10 @@
 //! How FIFO serves.
-ghost use Rattle.std.specs.Prelude.{◌≡◌, ◌+◌, ◌<◌, false, [], ◌∷◌, if◌then◌else◌, nat_eq, nat_lt};
+ghost use Rattle.std.specs.Prelude.{◌≡◌, false, [], ◌∷◌};
 ghost use Rattle.pagers.specs.Pagers.{fifo_model, fifo_room, queue_of};
 ghost use Rattle.paging.specs.Frames.{frames_of};
 ghost use Rattle.paging.specs.Pages.{has};
 ghost use Rattle.paging.specs.Policies.{fifo, fifo_step};
-ghost use Rattle.std.proofs.Common.{arith};
-ghost use Rattle.paging.proofs.Queues.{fifo_keeps};
-ghost use Rattle.pagers.specs.Tables.{codes_of};
-ghost use Rattle.pagers.specs.Hands.{queue_long};
+ghost use Rattle.pagers.specs.Laws.{fifo_law};
 
 use super::{FifoPager, Frame};
 use pager::Pager;
@@ -40,12 +37,9 @@ impl FifoPager {
     fn has(&self, code: u8) -> bool
         ensures { result ≡ has (queue_of self.now) code }
     {
-        for i in 0..self.used as usize {
-            if self.frames[i].code == code {
-                return true;
-            }
-        }
-        false
+        self.frames[..self.used as usize]
+            .iter()
+            .any(|frame| frame.code == code)
     }
 
     /// Puts a page into the frame at the hand, and moves the hand on.
@@ -55,24 +49,9 @@ impl FifoPager {
         ensures room { self.new.room ≡ self.old.room }
     {
         self.frames[self.hand as usize].load(code);
-        self.used = one_more(self.used, self.room);
-        self.hand = onward(self.hand, self.room);
+        self.used = (self.used + 1).min(self.room);
+        self.hand = (self.hand + 1) % self.room;
     }
-}
-
-/// How many frames are in use after a pull.
-fn one_more(used: u32, room: u32) -> u32
-    ensures { result ≡ (if nat_lt used room then used + 1 else used) }
-{
-    if used < room { used + 1 } else { used }
-}
-
-/// The frame after the one at the hand; after the last comes the first.
-fn onward(hand: u32, room: u32) -> u32
-    requires { hand < room }
-    ensures { result ≡ (if nat_eq (hand + 1) room then 0 else hand + 1) }
-{
-    if hand + 1 == room { 0 } else { hand + 1 }
 }
 
 impl Pager for FifoPager {
@@ -80,9 +59,7 @@ impl Pager for FifoPager {
 
     ghost room = { fifo_room };
 
-    ghost keeps = { λ s.
-        fifo_keeps s.room (omega (arith, s.at)) s.most (queue_of s)
-        (omega (arith, s.within, queue_long (codes_of s.frames) s.room s.used s.hand (omega (arith, s.wide, s.most)) s.within s.at s.filling)) };
+    ghost keeps = { fifo_law };
 
     fn frames(&self) -> u32 {
         self.room
@@ -97,13 +74,13 @@ impl Pager for FifoPager {
     }
 
     fn serve(&mut self, row: &[u8]) -> u32 {
-        if row.len() == 0 {
+        let Some(&code) = row.first() else {
+            return 0;
+        };
+        if self.has(code) {
             return 0;
         }
-        if self.has(row[0]) {
-            return 0;
-        }
-        self.pull(row[0]);
+        self.pull(code);
         1
     }
 }

@@ -1,10 +1,12 @@
 //! How a ranking's own run takes in a page.
-ghost use Rattle.std.specs.Prelude.{◌≡◌, ◌≤◌, not, ◌&&◌, ◌||◌, []};
-ghost use Rattle.paging.specs.Pages.{codes, size};
-ghost use Rattle.paging.specs.Rankings.{admit as admitted, hindmost as last};
+ghost use Rattle.std.specs.Prelude.{◌≡◌, not, ◌&&◌, ◌||◌, []};
+ghost use Rattle.paging.specs.Frames.{frames_of};
+ghost use Rattle.paging.specs.Pages.{codes};
+ghost use Rattle.paging.specs.Rankings.{admit as admitted, hindmost as hind};
 ghost use Rattle.paging.specs.Schedules.{pulled};
 ghost use Rattle.paging.specs.Sets.{pages};
 
+use paging::held::HeldPages;
 use paging::set::PageSet;
 use ranking::Ranking;
 use ranking::pass::is_behind;
@@ -18,30 +20,29 @@ fn takes<R: Ranking>(ranking: &R, held: &PageSet, z: u8, c: u8) -> bool
 
 /// The held page behind all others.
 fn hindmost<R: Ranking>(ranking: &R, held: &PageSet) -> u8
-    ensures { result ≡ last (R.order ranking.now []) codes (pages held.now) }
+    ensures { result ≡ hind (R.order ranking.now []) codes (pages held.now) }
 {
-    let mut z = 0;
-    for c in 0..256u16 {
-        if takes(ranking, held, z, c as u8) {
-            z = c as u8;
+    // From 0, which is the answer where nothing is held, as its definition has it.
+    let mut last = 0;
+    for code in 0..=u8::MAX {
+        if takes(ranking, held, last, code) {
+            last = code;
         }
     }
-    z
+    last
 }
 
 /// Serves a reference. Returns how many pages are pulled.
-pub(super) fn admit<R: Ranking>(ranking: &R, frames: u32, held: &mut PageSet, code: u8) -> u32
-    requires some { 1 ≤ frames }
-    requires within { size (pages held.old) ≤ frames }
-    ensures set { pages held.new ≡ admitted frames (last (R.order ranking.now []) codes (pages held.old)) code (pages held.old) }
-    ensures within { size (pages held.new) ≤ frames }
-    ensures answer { result ≡ pulled (pages held.old) (pages held.new) }
+pub(super) fn admit<R: Ranking>(ranking: &R, held: &mut HeldPages, code: u8) -> u32
+    ensures set { pages held.new.set ≡ admitted (frames_of held.old.frames) (hind (R.order ranking.now []) codes (pages held.old.set)) code (pages held.old.set) }
+    ensures frames { held.new.frames ≡ held.old.frames }
+    ensures answer { result ≡ pulled (pages held.old.set) (pages held.new.set) }
 {
-    if held.contains(code) {
+    if held.set.contains(code) {
         return 0;
     }
-    if held.len() >= frames {
-        let out = hindmost(ranking, held);
+    if held.is_full() {
+        let out = hindmost(ranking, &held.set);
         held.remove(out);
     }
     held.insert(code);

@@ -1,27 +1,28 @@
 //! The places that a ranking is told.
-ghost use Rattle.std.specs.Prelude.{◌≡◌, ◌+◌, ◌<◌, length, drop, slice_index};
+ghost use Rattle.std.specs.Prelude.{◌≡◌, ◌+◌, ◌==◌, position};
 ghost use Rattle.paging.specs.Rankings.{capped, next_place as at};
 
 /// The place that is so much later; places stop at 65,535.
 pub(super) fn later(place: u16, distance: usize) -> u16
     ensures { result ≡ capped (place + distance) }
 {
-    if distance < (65535 - place) as usize {
-        place + distance as u16
-    } else {
-        65535
-    }
+    usize::from(place).saturating_add(distance).min(65535) as u16
 }
 
-/// The place of the next reference to the row's first code, which stands at `place`, or 0 for none.
-pub(super) fn next_place(place: u16, row: &[u8]) -> u16
-    requires { 0 < length row.now }
-    ensures { result ≡ at place (slice_index row.now 0) (drop 1 row.now) }
+/// How many references stand before the next one to a code, if there is one.
+fn distance(code: u8, rest: &[u8]) -> Option<usize>
+    ensures { result ≡ position (λ x. x == code) rest.now }
 {
-    for i in 1..row.len() {
-        if row[i] == row[0] {
-            return later(place, i);
-        }
+    rest.iter().position(|&next| next == code)
+}
+
+/// The place of the next reference to the code at `place`, before the rest of a row, or 0 for none.
+// A place as rankings are told it, where 0 is none.
+pub(super) fn next_place(place: u16, code: u8, rest: &[u8]) -> u16
+    ensures { result ≡ at place code rest.now }
+{
+    match distance(code, rest) {
+        Some(between) => later(place, between + 1),
+        None => 0,
     }
-    0
 }

@@ -6,6 +6,7 @@ use super::FrameCount;
 use crate::refusal::Refusal;
 
 impl FrameCount {
+    // `new` and `get`: `try_from` and `u32::from` would say the same and be no plainer.
     /// Checks that a frame count is from 1 to 64.
     pub fn new(count: u32) -> Result<FrameCount, Refusal>
         ensures { checked count result }

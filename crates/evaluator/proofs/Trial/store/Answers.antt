@@ -1,4 +1,4 @@
-use Rattle.std.proofs.Common.{◌≡◌, ℕ, ◌≤◌, List, length, ap, ◌∙◌, subst}
+use Rattle.std.proofs.Common.{◌≡◌, ℕ, List, length, ap, ◌∙◌, arith, length-take}
 use Rattle.names.specs.Lists.{in_list, listed}
 use Rattle.recording.specs.Writing.{encoded, named_by, recording, written}
 use Rattle.evaluator.specs.Strings.{string}
@@ -14,7 +14,7 @@ returns g c =
     let ns = listed bits c.args.list.now.memory.now c.args.list.now.count in
     let s = string c.args.self.now in
     let old = c.args.out.now in
-    let value = c.codes.ensures.value in
+    let value = c.references.ensures in
     let answer : c.encode.result ≡ encoded width ns s (length old) = c.encode.ensures.answer ∙ ap (λ (cs : List ℕ). encoded width ns cs (length old)) value in
     let bytes : c.encode.new.out ≡ written c.encode.result (recording kind width (named_by ns s)) old =
     c.encode.ensures.out ∙ ap (λ (cs : List ℕ). written c.encode.result (recording kind width (named_by ns cs)) old) value in
@@ -22,5 +22,5 @@ returns g c =
       answer = answer;
       out = bytes;
       loads = store_loads bits kind width g.met.N.Name.mark g.met.N.Name.some g.met.N.Name.fits records s
-          (subst (λ (cs : List ℕ). length cs ≤ 4096) value c.codes.ensures.few) old c.encode.new.out c.encode.result answer bytes;
+          (omega (arith, length-take c.args.self.now.len c.args.self.now.codes, c.args.self.now.few)) old c.encode.new.out c.encode.result answer bytes;
     }

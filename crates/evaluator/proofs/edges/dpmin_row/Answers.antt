@@ -14,13 +14,13 @@ loop-k-preserved c =
     let told : c.run.result.0 ≡ instants_at Dpmin s (k + 1) =
     ap (λ (p : ℕ × ℕ). p.0) c.run.ensures.figures
     ∙ ap (λ (b : PagerModel). instants_on b s) (c.new-pager.ensures.holding ∙ ap (λ (f : ℕ). dpmin f nothing) c.in_ok-new.ensures.1) in (
-      length-set c.loop-k.row k c.run.result.0 ∙ c.loop-k.invariant.0,
+      length-set c.loop-k.faults-items k c.run.result.0 ∙ c.loop-k.invariant.0,
       below_more _ _
           (λ j h. let ne : j ≢ k = omega arith in rw get_or-set_other (c.loop-k.invariant.1 j h))
-          (let lt : k < length c.loop-k.row = omega (arith, c.loop-k.invariant.0, c.loop-k-test.true) in rw get_or-set_same told),
+          (let lt : k < length c.loop-k.faults-items = omega (arith, c.loop-k.invariant.0, c.loop-k-test.true) in rw get_or-set_same told),
     )
 
 pub returns : goal.returns
 returns c =
-    ap Ok (fill_by_all (λ k. instants_at Dpmin c.args.string.now (k + 1)) c.loop-k.row 64 0 c.loop-k.invariant.0
+    ap Ok (fill_by_all (λ k. instants_at Dpmin c.args.string.now (k + 1)) c.loop-k.faults-items 64 0 c.loop-k.invariant.0
     (λ j h. c.loop-k.invariant.1 j (omega (arith, c.loop-k-test.false))))

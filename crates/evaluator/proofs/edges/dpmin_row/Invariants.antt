@@ -4,4 +4,4 @@ use Rattle.evaluator.specs.Answers.{instants_at}
 use Rattle.evaluator.proofs.edges.dpmin_row.Given as goal
 
 abbrev pub invariant-loop-k : goal.invariant-loop-k
-invariant-loop-k l = (length l.row ≡ 64) × ((j : ℕ) → j < l.k → get_or l.row j 0 ≡ instants_at Dpmin l.string (j + 1))
+invariant-loop-k l = (length l.faults-items ≡ 64) × ((j : ℕ) → j < l.k → get_or l.faults-items j 0 ≡ instants_at Dpmin l.string (j + 1))

@@ -1,7 +1,7 @@
 use Rattle.std.proofs.Common.{◌≡◌, ℕ, Bool, true, false, ◌||◌, eqb, List, [], ◌∷◌, ◌++◌, get_or, take, sym, refl, ap, ◌∙◌}
 use mathlib.Core.Path.{fun_ext}
-use Rattle.std.proofs.lemmas.List.{take_more, take_all}
-use Rattle.paging.specs.Pages.{has, size, with_page}
+use Rattle.std.proofs.lemmas.List.{take_more}
+use Rattle.paging.specs.Pages.{has, with_page}
 use Rattle.paging.proofs.Queues.{has_append}
 use Rattle.evaluator.proofs.pages.different.Goals as goal
 
@@ -14,16 +14,8 @@ has_push xs x = fun_ext (λ c. swap (eqb x c) (has xs c) ∙ sym (has_append xs 
     swap false true = refl
     swap false false = refl
 
-pub loop-t-init : goal.loop-t-init
-loop-t-init c = c.new-seen.ensures
-
-pub loop-t-preserved : goal.loop-t-preserved
-loop-t-preserved c =
+pub loop-code-preserved : goal.loop-code-preserved
+loop-code-preserved c =
     let s = c.args.string.now in
-    let t = c.loop-t.t in
-    c.insert.ensures ∙ ap (with_page (get_or s t 0)) c.loop-t.invariant ∙ has_push (take t s) (get_or s t 0) ∙ ap has (sym (take_more s t 0 c.loop-t-test.true))
-
-pub returns : goal.returns
-returns c =
-    let s = c.args.string.now in
-    c.len.ensures ∙ ap size (c.loop-t.invariant ∙ ap has (take_all c.loop-t.t s c.loop-t-test.false))
+    let t = c.loop-code.code-index in
+    c.insert.ensures ∙ ap (with_page (get_or s t 0)) c.loop-code.invariant ∙ has_push (take t s) (get_or s t 0) ∙ ap has (sym (take_more s t 0 c.loop-code-test.true))

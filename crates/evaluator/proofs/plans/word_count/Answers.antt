@@ -11,7 +11,7 @@ overflow_sub-result g c =
     let s = c.args.string.now in
     let p : c.run-pulls.result.1 ≡ pulls_on b s = ap (λ (r : ℕ × ℕ). r.1) c.run-pulls.ensures.figures in
     let h : c.held_count-held.result ≡ size (held_on b s (length s)) = c.held_count-held.ensures ∙ ap (λ (m : PagerModel). size (m [])) c.run-pulls.ensures.moves in
-    omega (arith, p, h, c.requires.empty, pulls_balance (held_on b s) (length s))
+    omega (arith, p, h, c.requires, pulls_balance (held_on b s) (length s))
 
 pub returns : goal.returns
 returns g c =
@@ -19,4 +19,4 @@ returns g c =
     let s = c.args.string.now in
     let p : c.run-pulls.result.1 ≡ pulls_on b s = ap (λ (r : ℕ × ℕ). r.1) c.run-pulls.ensures.figures in
     let h : c.held_count-held.result ≡ size (held_on b s (length s)) = c.held_count-held.ensures ∙ ap (λ (m : PagerModel). size (m [])) c.run-pulls.ensures.moves in
-    omega (arith, p, h, c.requires.empty, pulls_balance (held_on b s) (length s), plan_long (held_on b s) (length s))
+    omega (arith, p, h, c.requires, pulls_balance (held_on b s) (length s), plan_long (held_on b s) (length s))

@@ -4,5 +4,5 @@ use Rattle.listing.specs.Listings.{row_of}
 use Rattle.listing.proofs.Tables.{no_row}
 use Rattle.listing.proofs.figures.fill_rows.Given as goal
 
-abbrev pub invariant-loop-i : goal.invariant-loop-i
-invariant-loop-i l = (j : ℕ) → j < l.i → get_or l.rows j no_row ≡ row_of (string l.trial) (j + 1)
+abbrev pub invariant-loop-k : goal.invariant-loop-k
+invariant-loop-k l = (j : ℕ) → j < l.k → get_or l.rows j no_row ≡ row_of (string l.trial) (j + 1)

@@ -1,26 +1,22 @@
-use Rattle.std.proofs.Common.{ℕ, ◌+◌, List, length, take, sym, ap, ◌∙◌, arith}
-use Rattle.std.proofs.lemmas.List.{length-append, take_all}
+use Rattle.std.proofs.Common.{◌≡◌, ◌∙◌, ◌+◌, ◌<◌, rules, length, arith}
+use Rattle.std.proofs.lemmas.Iterator.{YieldsList-from_slice}
+use Rattle.std.proofs.lemmas.Iterator.Adapters.{fits_from_length, at_most_from_yields_List}
+use Rattle.std.specs.List.{fold, sum_by}
 use Rattle.listing.specs.declared.text.Row.{Row}
-use Rattle.listing.specs.Listings.{lines}
-use Rattle.listing.proofs.Tables.{lines_none, lines_more}
+use Rattle.listing.specs.Texts.{row_text}
+use Rattle.listing.proofs.Tables.{length_lines}
 use Rattle.listing.proofs.table.lines_len.Goals as goal
 
-pub overflow_add-size : goal.overflow_add-size
-overflow_add-size c = omega (arith, c.loop-i.invariant.1, c.text_len-size.ensures.bound, c.loop-i-test.true, c.requires)
+pub returns-clause-value : goal.returns-clause-value
+returns-clause-value c =
+    let e : c.sum.result ≡ sum_by (λ (r : Row). length (row_text r)) c.args.table.now.rows.now = search rules in
+    e ∙ length_lines c.args.table.now.rows.now
 
-pub loop-i-init : goal.loop-i-init
-loop-i-init c = (sym (ap length lines_none), omega arith)
-
-pub loop-i-preserved : goal.loop-i-preserved
-loop-i-preserved c =
-    let e = lines_more c.args.rows.now c.loop-i.i c.loop-i-test.true in (
-      ap (λ (n : ℕ). n + c.text_len-size.result) c.loop-i.invariant.0 ∙ ap (λ (n : ℕ). length (lines (take c.loop-i.i c.args.rows.now)) + n) c.text_len-size.ensures.value ∙ sym (ap length e ∙ length-append _ _),
-      omega (arith, c.loop-i.invariant.1, c.text_len-size.ensures.bound),
-    )
-
-pub returns : goal.returns
-returns c =
-    record {
-      value = c.loop-i.invariant.0 ∙ ap (λ (rs : List Row). length (lines rs)) (take_all c.loop-i.i c.args.rows.now (omega (arith, c.loop-i-test.false)));
-      bound = omega (arith, c.loop-i.invariant.1, c.requires, c.loop-i.auto.i-end);
-    }
+-- at most 64 lines, each of at most 105 bytes
+pub returns-clause-bound : goal.returns-clause-bound
+returns-clause-bound c =
+    let p = c.sum.ensures.runs tt in
+    let small : fold (λ a x. a + x) 0 p.0.items < 6721 =
+    fits_from_length _ _ 64 6721 (at_most_from_yields_List (YieldsList-from_slice c.args.table.now.rows.now cc) c.args.table.now.few)
+    c.map.ensures.closure (omega arith) (λ x r q k. search rules) p.0 p.0.seen p.1 in
+    omega (arith, small, p.3)

@@ -11,7 +11,7 @@ use Rattle.pager.proofs.runs.run.Goals.{then-not-holds, else-not-holds}
 
 pub loop-place-init : goal.loop-place-init
 loop-place-init g c =
-    let s = c.args.string.now in
+    let s = c.codes-codes.result.now in
     let b = g.P.Pager.holding c.args.pager.now in (
       refl,
       sym (total_none (λ t. bit (not (held_on b s t (get_or s t 0))))),
@@ -32,7 +32,7 @@ loop-place-preserved g c =
     let b = g.P.Pager.holding c.args.pager.now in
     let m = g.P.Pager.holding c.loop-place.pager in
     let m' = g.P.Pager.holding c.serve-pulls.new.self in
-    let s = c.args.string.now in
+    let s = c.codes-codes.result.now in
     let t = c.loop-place.place in
     let inv = c.loop-place.invariant in
     let served = c.serve-pulls.ensures in

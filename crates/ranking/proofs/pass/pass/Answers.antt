@@ -5,7 +5,8 @@ use Rattle.paging.specs.Pages.{bit, nothing, has}
 use Rattle.paging.specs.Schedules.{faults}
 use Rattle.paging.specs.Models.{held_on}
 use Rattle.paging.specs.Rankings.{RankingModel, telling, told, told_all, tellings, next_place, own_from, own_faults}
-use Rattle.ranking.specs.Stack.{restacked, stacked}
+use Rattle.ranking.specs.Places.{NextPlaces}
+use Rattle.ranking.specs.Stack.{restacked, pass_row}
 use Rattle.paging.specs.Queues.{once, coded}
 use Rattle.ranking.proofs.Lists.{once_take, coded_take}
 use Rattle.ranking.proofs.Stacks.{once_restacked, coded_restacked}
@@ -16,11 +17,11 @@ at_most : (b : Bool) → bit b ≤ 1
 at_most true = omega arith
 at_most false = omega arith
 
-pub loop-i-init : goal.loop-i-init
-loop-i-init g c =
+pub loop-t-init : goal.loop-t-init
+loop-t-init g c =
     let r = g.R.Ranking.order c.args.ranking.now in
-    let s = c.args.string.now in
-    let st = stacked c.new-stack.result in
+    let s = c.codes-codes.result.now in
+    let st = c.new-stack.result in
     let none : [] ≡ st = sym c.new-stack.ensures in (
       refl,
       subst (λ (zs : List ℕ). once zs ≡ true) none refl,
@@ -31,44 +32,47 @@ loop-i-init g c =
       refl,
     )
 
-pub loop-i-preserved : goal.loop-i-preserved
-loop-i-preserved g c =
+pub loop-t-preserved : goal.loop-t-preserved
+loop-t-preserved g c =
     let r₀ = g.R.Ranking.order c.args.ranking.now in
-    let r = g.R.Ranking.order c.loop-i.ranking in
+    let r = g.R.Ranking.order c.loop-t.ranking in
     let r' = g.R.Ranking.order c.tell.new.self in
     let orders = g.met.R.Ranking.orders c.tell.new.self in
-    let s = c.args.string.now in
-    let i = c.loop-i.i in
+    let s = c.codes-codes.result.now in
+    let i = c.loop-t.t in
     let x = get_or s i 0 in
-    let st = stacked c.loop-i.stack in
-    let st' = stacked c.settle.new.self in
+    let st = c.loop-t.stack in
+    let st' = c.settle.new.self in
     let after = c.settle.ensures in
-    let inv = c.loop-i.invariant in
-    let h = c.loop-i-test.true in
-    let small : i < 65535 = omega arith in
+    let inv = c.loop-t.invariant in
+    let h = c.loop-t-test.true in
+    let small : i < 65535 = omega (arith, c.codes-codes.ensures.few) in
+    let places = subst (λ (z : List ℕ). NextPlaces z 0 c.next_places-after.result) (sym c.codes-codes.ensures.codes) c.next_places-after.ensures in
     let Tell : ℕ → ℕ → RankingModel = λ p n. told r (telling x p n) in
     let moves : r' ≡ Tell (suc i) (next_place (suc i) x (drop (suc i) s)) =
     c.tell.ensures ∙ ap (λ (p : ℕ). Tell p (get_or c.next_places-after.result i 0)) (add-one i) ∙
-    ap (λ (n : ℕ). Tell (suc i) n) (c.next_places-after.ensures i (omega arith) h) in (
+    ap (λ (n : ℕ). Tell (suc i) n) (places i (omega arith) h) in (
       c.type_inv.row,
       subst (λ (zs : List ℕ). once zs ≡ true) (sym after) (once_take 64 (restacked (r' []) x st) (once_restacked (r' []) x st inv.1)),
-      subst (λ (zs : List ℕ). coded zs ≡ true) (sym after) (coded_take 64 (restacked (r' []) x st) (coded_restacked (r' []) x st (omega (arith, c.type_inv.string i)) inv.2)),
+      subst (λ (zs : List ℕ). coded zs ≡ true) (sym after) (coded_take 64 (restacked (r' []) x st) (coded_restacked (r' []) x st (omega (arith, c.type_inv.codes i)) inv.2)),
       λ f l. omega (arith, c.charge.ensures f l, at_most (not (has (take (suc f) st) x)), inv.3 f l),
       λ f l. subst (λ (k : ℕ). Tracked r₀ r' nothing s st' k (get_or c.charge.new.row f 0) f) (sym (add-one i))
-          (tracked_more r₀ r r' nothing s st st' i (get_or c.loop-i.row f 0) (get_or c.charge.new.row f 0) f orders inv.1 inv.2 h small moves (c.charge.ensures f l) after l (inv.4 f l)),
+          (tracked_more r₀ r r' nothing s st st' i (get_or c.loop-t.row f 0) (get_or c.charge.new.row f 0) f orders inv.1 inv.2 h small moves (c.charge.ensures f l) after l (inv.4 f l)),
       subst (λ (k : ℕ). told_all r' (tellings k (drop k s)) ≡ told_all r₀ (tellings 0 s)) (sym (add-one i)) (sym (told_more r r' s i h small moves) ∙ inv.5),
     )
 
 pub returns : goal.returns
 returns g c =
     let r₀ = g.R.Ranking.order c.args.ranking.now in
-    let r = g.R.Ranking.order c.loop-i.ranking in
-    let s = c.args.string.now in
-    let i = c.loop-i.i in
-    let inv = c.loop-i.invariant in
-    let end : i ≡ length s = omega (arith, c.loop-i.auto.i-end, c.loop-i-test.false) in
+    let r = g.R.Ranking.order c.loop-t.ranking in
+    let s = c.codes-codes.result.now in
+    let i = c.loop-t.t in
+    let inv = c.loop-t.invariant in
+    let end : i ≡ length s = omega (arith, c.loop-t.auto.t-end, c.loop-t-test.false) in
+    let row : c.loop-t.row ≡ pass_row r₀ s =
+    fill_by_all (λ k. own_faults r₀ (k + 1) s) c.loop-t.row 64 0 inv.0
+    (λ k l. (inv.4 k l).counts ∙ ap (λ (j : ℕ). faults s (held_on (own_from r₀ (suc k) nothing) s) j) end ∙ ap (λ (f : ℕ). own_faults r₀ f s) (sym (add-one k))) in
     record {
-      faults = fill_by_all (λ k. own_faults r₀ (k + 1) s) c.loop-i.row 64 0 inv.0
-          (λ k l. (inv.4 k l).counts ∙ ap (λ (j : ℕ). faults s (held_on (own_from r₀ (suc k) nothing) s) j) end ∙ ap (λ (f : ℕ). own_faults r₀ f s) (sym (add-one k)));
-      told = sym (told_end r s i c.loop-i-test.false) ∙ inv.5;
+      faults = row ∙ ap (pass_row r₀) c.codes-codes.ensures.codes;
+      told = sym (told_end r s i c.loop-t-test.false) ∙ inv.5 ∙ ap (λ (z : List ℕ). told_all r₀ (tellings 0 z)) c.codes-codes.ensures.codes;
     }

@@ -1,16 +1,17 @@
 -- The four numbers taken are those of the first three bytes.
 use Rattle.std.proofs.Common.{◌+◌, Err, sym, refl, ap, ◌∙◌, inl, inr, arith}
 use Rattle.recording.proofs.Layouts.{Front, front_ok, moved_on, head_unmarked, head_many, head_counted}
+use Rattle.recording.proofs.layout.header.Given.{Over}
 use Rattle.recording.proofs.layout.header.Goals as goal
-use Rattle.recording.proofs.layout.header.Goals.{In_ok-count, then-version-ne1-via-then-version-ne1, then-version-ne1-via-else-version-ne1+then-own_kind-kind, then-version-ne1-via-else-version-ne1+else-own_kind-kind+then-zero-ne0}
+use Rattle.recording.proofs.layout.header.Goals.{In_ok-count, then-version-ne-VERSION-via-then-version-ne-VERSION, then-version-ne-VERSION-via-else-version-ne-VERSION+then-kind-kind_number, then-version-ne-VERSION-via-else-version-ne-VERSION+else-kind-kind_number+then-zero-ne0}
 
-front : (c : In_ok-count) → Front c.args.bytes.now c.in_ok-version.version c.in_ok-own_kind.own_kind c.in_ok-zero.zero c.in_ok-count.count
-front c =
+front : (g : Over) (c : In_ok-count g) → Front c.args.bytes.now c.in_ok-version.version c.in_ok-kind.kind c.in_ok-zero.zero c.in_ok-count.count
+front g c =
     let bytes = c.args.bytes.now in
-    let len = c.min-len.result in
-    let l = c.min-len.ensures in
+    let len = c.min.result in
+    let l = c.min.ensures in
     let o0 = c.in_ok-version.was in
-    let o1 = c.in_ok-own_kind.was in
+    let o1 = c.in_ok-kind.was in
     let o2 = c.in_ok-zero.was in
     let o3 = c.in_ok-count.was in
     let i1 = moved_on 0 _ 4 _ _ o0 c.take.ensures.at in
@@ -25,17 +26,19 @@ front c =
     let r3 = front_ok bytes _ len 8 16 _ p3 l (omega arith) (rw i3 at (sym c.take-4.ensures.answer ∙ o3)) in
     record { long = omega arith; version_is = r0.0; kind_is = r1.0; zeros_are = r2.0; count_is = r3.0 }
 
-pub returns-then-version-ne1 : goal.returns-then-version-ne1
-returns-then-version-ne1 c =
-    let f = front (goal.at.returns-then-version-ne1 c).In_ok-count in
-    ap Err c.refused.ensures ∙ elim c.then-version-ne1.branch [
-      | then-version-ne1-via-then-version-ne1 w ↦ head_unmarked _ c.args.kind _ _ _ _ f (inl w.if-version-ne1.true)
-      | then-version-ne1-via-else-version-ne1+then-own_kind-kind w ↦ head_unmarked _ c.args.kind _ _ _ _ f (inr (inl w.if-own_kind-kind.true))
-      | then-version-ne1-via-else-version-ne1+else-own_kind-kind+then-zero-ne0 w ↦ head_unmarked _ c.args.kind _ _ _ _ f (inr (inr w.if-zero-ne0.true))
+pub returns-then-version-ne-VERSION : goal.returns-then-version-ne-VERSION
+returns-then-version-ne-VERSION g c =
+    let f = front g (goal.at.returns-then-version-ne-VERSION g c).In_ok-count in
+    ap Err c.by_bytes.ensures ∙ elim c.then-version-ne-VERSION.branch [
+      | then-version-ne-VERSION-via-then-version-ne-VERSION w ↦ head_unmarked _ g.N.Name.kind _ _ _ _ f (inl w.if-version-ne-VERSION.true)
+      | then-version-ne-VERSION-via-else-version-ne-VERSION+then-kind-kind_number w ↦ head_unmarked _ g.N.Name.kind _ _ _ _ f (inr (inl (λ e. w.if-kind-kind_number.true (e ∙ sym w.kind_number.ensures))))
+      | then-version-ne-VERSION-via-else-version-ne-VERSION+else-kind-kind_number+then-zero-ne0 w ↦ head_unmarked _ g.N.Name.kind _ _ _ _ f (inr (inr w.if-zero-ne0.true))
     ]
 
 pub returns-then-count-gt-MOST : goal.returns-then-count-gt-MOST
-returns-then-count-gt-MOST c = ap Err c.refused-then-count-gt-MOST.ensures ∙ head_many _ _ _ _ _ _ (front (goal.at.returns-then-count-gt-MOST c).In_ok-count) c.if-version-ne1.false c.if-own_kind-kind.false c.if-zero-ne0.false c.if-count-gt-MOST.true
+returns-then-count-gt-MOST g c =
+    ap Err c.by_bytes-then-count-gt-MOST.ensures
+    ∙ head_many _ _ _ _ _ _ (front g (goal.at.returns-then-count-gt-MOST g c).In_ok-count) c.if-version-ne-VERSION.false (c.if-kind-kind_number.false ∙ c.kind_number.ensures) c.if-zero-ne0.false c.if-count-gt-MOST.true
 
 pub returns : goal.returns
-returns c = head_counted _ _ _ _ _ _ (front (goal.at.returns c).In_ok-count) c.if-version-ne1.false c.if-own_kind-kind.false c.if-zero-ne0.false c.if-count-gt-MOST.false
+returns g c = head_counted _ _ _ _ _ _ (front g (goal.at.returns g c).In_ok-count) c.if-version-ne-VERSION.false (c.if-kind-kind_number.false ∙ c.kind_number.ensures) c.if-zero-ne0.false c.if-count-gt-MOST.false

@@ -1,5 +1,6 @@
 -- The codes looked at so far. Assumes nothing.
-use Rattle.std.proofs.Common.{◌≡◌, ◌-◌, ◌≤◌}
+use Rattle.std.proofs.Common.{◌≡◌, ◌≤◌}
+use Rattle.paging.specs.Frames.{frames_of}
 use Rattle.paging.specs.Pages.{size}
 use Rattle.paging.specs.Sets.{pages}
 use Rattle.pager.specs.Prepaging.{filled}
@@ -7,8 +8,5 @@ use Rattle.pagers.proofs.dpmin.prepage.fill.Given as goal
 
 abbrev pub invariant-loop-code : goal.invariant-loop-code
 invariant-loop-code l =
-    (pages l.new ≡ filled (pages l.initial.new) l.code (pages l.held)) × (size (pages l.new) ≤ l.frames)
-    × (l.frames ≤ size (pages l.initial.new) → l.code ≡ 0) × (l.code ≤ 256)
-
-abbrev pub decreases-loop-code : goal.decreases-loop-code
-decreases-loop-code l = 256 - l.code
+    (pages l.new.set ≡ filled (pages l.initial.new.set) l.code (pages l.held)) × (l.new.frames ≡ l.initial.new.frames)
+    × (frames_of l.initial.new.frames ≤ size (pages l.initial.new.set) → l.code ≡ 0)

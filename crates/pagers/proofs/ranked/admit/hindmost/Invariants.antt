@@ -4,5 +4,5 @@ use Rattle.paging.specs.Rankings.{hindmost}
 use Rattle.paging.specs.Sets.{pages}
 use Rattle.pagers.proofs.ranked.admit.hindmost.Given as goal
 
-abbrev pub invariant-loop-c : goal.invariant-loop-c
-invariant-loop-c g l = l.z ≡ hindmost (g.R.Ranking.order l.ranking []) l.c (pages l.held)
+abbrev pub invariant-loop-code : goal.invariant-loop-code
+invariant-loop-code g l = l.last ≡ hindmost (g.R.Ranking.order l.ranking []) l.code (pages l.held)

@@ -1,14 +1,10 @@
--- One code more, and the end of the search. Assumes nothing.
-use Rattle.std.proofs.Common.{sym, ◌∙◌, arith}
-use Rattle.pagers.proofs.Ahead.{searched_on, found_at, none_ahead}
+-- Where the search ends. Assumes nothing.
+use Rattle.std.proofs.Common.{sym, ◌∙◌}
+use Rattle.pagers.proofs.Ahead.{place_found, place_none}
 use Rattle.pagers.proofs.ranked.places.next_place.Goals as goal
 
-pub returns-then-row-i : goal.returns-then-row-i
-returns-then-row-i c =
-    c.later.ensures ∙ sym (found_at c.args.row.now c.loop-i.i (omega arith) c.loop-i.invariant c.args.place c.loop-i-test.true c.if-row-i.true)
+pub returns-in-Some : goal.returns-in-Some
+returns-in-Some c = c.later.ensures ∙ sym (place_found c.args.place c.args.code c.args.rest.now c.in-Some.between (sym c.distance.ensures ∙ c.in-Some.is))
 
-pub loop-i-preserved : goal.loop-i-preserved
-loop-i-preserved c = searched_on c.args.row.now c.loop-i.i (omega arith) c.loop-i.invariant c.loop-i-test.true c.if-row-i.false
-
-pub returns : goal.returns
-returns c = sym (none_ahead c.args.row.now c.loop-i.i (omega arith) c.loop-i.invariant c.args.place (omega arith))
+pub returns-in-None : goal.returns-in-None
+returns-in-None c = sym (place_none c.args.place c.args.code c.args.rest.now (sym c.distance.ensures ∙ c.in-None.is))
