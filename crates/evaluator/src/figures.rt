@@ -12,6 +12,7 @@ use paging::refusal::Refusal;
 
 impl Trial {
     /// The fault instants and the pulls of a policy's schedule of the string.
+    // Letter and frame count apart, here and in a plan: the letter is refused first.
     pub fn figures(&self, letter: char, frames: u32) -> Result<(u32, u32), Refusal>
         ensures { result ≡ figures_answer letter frames (string self.now) }
     {

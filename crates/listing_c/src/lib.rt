@@ -6,7 +6,8 @@ ghost use Rattle.evaluator.specs.Answers.{written};
 ghost use Rattle.listing.specs.Listings.{count_written, listing_text};
 
 /// The listing of a recording. Returns how many bytes it wrote, or 0 where the memory is too short: no listing is empty.
-// A number and 0 for a refusal, for C, and a crate of its own, since a library exports nothing to C.
+// A number and 0 for a refusal, for C, and a crate of its own, since a library exports nothing to C. The promises stand
+// here again, since they are those of the name that C calls.
 #[unsafe(no_mangle)]
 pub extern "C" fn bands_listing(recording: &[u8], out: &mut [u8]) -> usize
     ensures answer { result ≡ count_written (listing_text recording.now) out.old }

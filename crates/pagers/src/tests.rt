@@ -39,6 +39,7 @@ fn min_figures(rt: HostRuntime) -> Result<(), Fail> {
 }
 
 /// A move as a word, by the numbers of the format.
+// Numbers, and not the code's own enum, since the test is of the format.
 fn word(place: u32, kind: u32, code: u32) -> u32 {
     place << 19 | kind << 18 | code << 10
 }

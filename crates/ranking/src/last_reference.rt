@@ -9,7 +9,7 @@ use crate::Ranking;
 /// For each code the place of its last reference, or 0 for a code never told of.
 #[derive(Drop)]
 pub struct LastReference {
-    // Places as they are told, where 0 is none.
+    // Places as they are told, where 0 is none, and a table by code, since nothing here is allocated.
     places: [u16; 256],
 }
 

@@ -9,7 +9,7 @@ use crate::stack::Stack;
 use paging::string::References;
 
 /// For each reference the place of the next reference to its code, or 0 for none, from one scan backwards.
-// Places as rankings are told them, where 0 is none.
+// Places as rankings are told them, where 0 is none, and tables, since nothing here is allocated.
 fn next_places(string: &References) -> [u16; 4096]
     ensures { NextPlaces string.now 0 result }
 {

@@ -39,7 +39,7 @@ impl<'a, N: Name + Copy> NamedString<'a, N> {
         Ok(NamedString { names, codes })
     }
 
-    // The number that the name of the code at a place stands for. Behind the codes it is 0.
+    // The number that the name of the code at a place stands for. Behind the codes it is 0, as the format fills with zero bits.
     fn number(&self, i: usize) -> u16
         ensures { result ≡ slice_index (named_by (map N.bits self.now.names.now) self.now.codes.now) i }
     {

@@ -82,6 +82,7 @@ impl Comparisons {
     }
 
     /// A letter or a frame count that is refused with the number, and leaves the memory as it was.
+    // By number, since that is what callers see and what is compared.
     fn compare_refusal(&mut self, letter: char, frames: u32, number: u8) {
         let mut memory = [5; 3];
         self.refusals

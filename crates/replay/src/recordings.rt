@@ -135,6 +135,7 @@ impl Comparisons {
 struct Bad {
     /// The bytes.
     bytes: &'static [u8],
+    // A number, since that is what callers see and what is compared.
     /// The refusal's number.
     number: u8,
     /// Where they are refused.

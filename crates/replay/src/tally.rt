@@ -50,6 +50,7 @@ impl Tally {
         expected: &[T],
         write: F,
     ) -> Result<(), AllocError>
+        // What calls a closure has to require that it may be called, here and in each function like this.
         requires { F.IsAlwaysCallable write }
     {
         let fits = expected.len();

@@ -13,7 +13,7 @@ pub(super) struct Window<'s> {
     width: usize,
     place: usize,
     pub(super) set: PageSet,
-    // The place from 1 of each page, or 0 for none, as everywhere.
+    // The place from 1 of each page, or 0 for none, as everywhere: a table by code, since nothing here is allocated.
     places: [u16; 256],
     ghost few: { length codes.now ≤ 4096 },
     ghost some: { 1 ≤ width },
