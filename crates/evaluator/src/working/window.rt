@@ -48,22 +48,29 @@ impl<'s> Window<'s> {
         ensures width { self.new.width ≡ self.old.width }
         ensures place { self.new.place ≡ self.old.place + 1 }
     {
-        // On copies, since the fields have to fit one another where the window is used as a whole.
         let t = self.place;
         let code = self.codes[t];
-        let mut places = self.places;
-        places[code as usize] = t as u16 + 1;
-        let mut set = self.set;
-        set.insert(code);
-        if t >= self.width {
-            let behind = t - self.width;
-            let left = self.codes[behind];
-            if places[left as usize] as usize == behind + 1 {
-                set.remove(left);
-            }
-        }
         self.place = t + 1;
-        self.places = places;
-        self.set = set;
+        self.places[code as usize] = t as u16 + 1;
+        slide_set(&mut self.set, &self.places, self.codes, t, self.width);
+    }
+}
+
+/// Moves the set of a window on by the reference t, whose place is in the table already.
+// Apart from `slide`: the set is lent once, and then fits the window again.
+fn slide_set(set: &mut PageSet, places: &[u16; 256], codes: &[u8], t: usize, width: usize)
+    requires within { t < length codes.now }
+    requires few { length codes.now ≤ 4096 }
+    requires some { 1 ≤ width }
+    requires before { Windowed width codes.now t (pages set.old) }
+    requires table { Latest codes.now (t + 1) places.now }
+    ensures { Windowed width codes.now (t + 1) (pages set.new) }
+{
+    set.insert(codes[t]);
+    if t >= width {
+        let left = codes[t - width];
+        if places[left as usize] as usize == t - width + 1 {
+            set.remove(left);
+        }
     }
 }
