@@ -4,7 +4,6 @@ ghost use Rattle.evaluator.specs.Answers.{figures_answer};
 ghost use Rattle.evaluator.specs.Strings.{string};
 
 use crate::Trial;
-use pager::runs::run;
 use pagers::policy::PolicyPager;
 use paging::frames::FrameCount;
 use paging::policy::Policy;
@@ -18,7 +17,6 @@ impl Trial {
     {
         let policy = Policy::try_from(letter)?;
         let frames = FrameCount::new(frames)?;
-        let mut pager = PolicyPager::new(policy, frames);
-        Ok(run(&mut pager, &self.references()))
+        Ok(PolicyPager::new(policy, frames).run(&self.references()))
     }
 }

@@ -5,10 +5,11 @@ ghost use Rattle.pager.specs.Kinds.{kind_bit, moved};
 ghost use Rattle.pager.specs.Plans.{PlansTell, moves, plan_words, word as packed, words};
 ghost use Rattle.pager.specs.Prepaging.{filled};
 ghost use Rattle.paging.specs.Models.{after, held_on};
-ghost use Rattle.paging.specs.Pages.{codes, nothing};
+ghost use Rattle.paging.specs.Pages.{codes, nothing, size};
 ghost use Rattle.paging.specs.Sets.{pages};
 
 use crate::Pager;
+use crate::runs::run;
 use output::Output;
 use paging::set::PageSet;
 use paging::string::References;
@@ -83,6 +84,17 @@ pub fn plan<P: Pager>(pager: &mut P, string: &References, out: &mut [u32]) -> us
     let mut plan = Output::over(out);
     write_moves(pager, string, &mut plan);
     plan.len()
+}
+
+/// How many words the plan of a pager has that holds nothing: its pulls and its releases, and it releases what it pulls but for
+/// the pages that it holds at the end.
+pub fn word_count<P: Pager>(pager: &mut P, string: &References) -> usize
+    requires { size (P.holding pager.old []) ≡ 0 }
+    ensures { result ≡ length (plan_words (held_on (P.holding pager.old) string.now) (length string.now)) }
+{
+    let (_, pulls) = run(pager, string);
+    let held = pager.held_count();
+    2 * pulls as usize - held as usize
 }
 
 /// Plans tell the pulls, the releases and what is held.

@@ -9,5 +9,5 @@ use paging::set::PageSet;
 pub fn lacks(one: &PageSet, other: &PageSet, code: u8) -> bool
     ensures { result ≡ less (pages one.now) (pages other.now) code }
 {
-    one.contains(code) && !other.contains(code)
+    one.contains(code) & !other.contains(code)
 }

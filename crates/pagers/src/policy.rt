@@ -5,6 +5,7 @@ use crate::ranked::RankingPager;
 use ranking::last_reference::LastReference;
 use ranking::next_reference::NextReference;
 
+mod runs;
 mod serve;
 
 /// The pager of a policy: what the policy says, moved by its own rule.

@@ -3,7 +3,7 @@ use Rattle.paging.specs.Models.{PagerModel, held_on, pulls_on}
 use Rattle.paging.specs.Pages.{size}
 use Rattle.paging.proofs.Balance.{pulls_balance}
 use Rattle.pager.proofs.Replays.{plan_long}
-use Rattle.evaluator.proofs.plans.word_count.Goals as goal
+use Rattle.pager.proofs.plans.word_count.Goals as goal
 
 pub overflow_sub-result : goal.overflow_sub-result
 overflow_sub-result g c =
