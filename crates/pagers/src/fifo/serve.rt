@@ -1,5 +1,5 @@
 //! How FIFO serves.
-ghost use Rattle.std.specs.Prelude.{◌≡◌, false, [], ◌∷◌};
+ghost use Rattle.std.specs.Prelude.{◌≡◌, ◌+◌, ◌<◌, false, [], ◌∷◌, if◌then◌else◌, nat_eq};
 ghost use Rattle.pagers.specs.Pagers.{fifo_model, fifo_room, queue_of};
 ghost use Rattle.paging.specs.Frames.{frames_of};
 ghost use Rattle.paging.specs.Pages.{has};
@@ -37,9 +37,12 @@ impl FifoPager {
     fn has(&self, code: u8) -> bool
         ensures { result ≡ has (queue_of self.now) code }
     {
-        self.frames[..self.used as usize]
-            .iter()
-            .any(|frame| frame.code == code)
+        for frame in &self.frames[..self.used as usize] {
+            if frame.code == code {
+                return true;
+            }
+        }
+        false
     }
 
     /// Puts a page into the frame at the hand, and moves the hand on.
@@ -50,8 +53,17 @@ impl FifoPager {
     {
         self.frames[self.hand as usize].load(code);
         self.used = (self.used + 1).min(self.room);
-        self.hand = (self.hand + 1) % self.room;
+        self.hand = onward(self.hand, self.room);
     }
+}
+
+/// The frame after the one at the hand; after the last comes the first.
+// A comparison: a division at each pull took as long as the rest of it.
+fn onward(hand: u32, room: u32) -> u32
+    requires { hand < room }
+    ensures { result ≡ (if nat_eq (hand + 1) room then 0 else hand + 1) }
+{
+    if hand + 1 == room { 0 } else { hand + 1 }
 }
 
 impl Pager for FifoPager {
