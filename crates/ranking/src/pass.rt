@@ -43,8 +43,7 @@ pub fn pass<R: Ranking>(ranking: &mut R, string: &References) -> [u32; 64]
     let mut stack = Stack::new();
     for (t, &code) in codes.iter().enumerate() {
         ranking.tell(code, t as u16 + 1, after[t]);
-        stack.charge(code, &mut row);
-        stack.settle(ranking, code);
+        stack.refer(ranking, code, &mut row);
     }
     row
 }

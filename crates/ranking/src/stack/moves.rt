@@ -19,6 +19,14 @@ impl Stack {
         }
     }
 
+    /// Whether a code is on top.
+    fn is_top(&self, code: u8) -> bool
+        ensures top { result ≡ has (take 1 self.now) code }
+        ensures few { length self.now ≤ 64 }
+    {
+        self.depth > 0 && self.pages[0] == code
+    }
+
     /// The stack distance of a code: how many pages lie above it, if it is in the stack.
     fn distance(&self, code: u8) -> Option<usize>
         ensures place { result ≡ position (λ x. x == code) self.now }
@@ -51,6 +59,19 @@ impl Stack {
                 self.depth += 1;
             }
         }
+    }
+
+    /// A reference to `code`: charged, and then settled. The page on top faults nowhere and moves nothing, which is asked first.
+    pub fn refer<R: Ranking>(&mut self, ranking: &R, code: u8, row: &mut [u32; 64])
+        requires { (f : ℕ) → f < 64 → slice_index row.old f < 65536 }
+        ensures charged { (f : ℕ) → f < 64 → slice_index row.new f ≡ slice_index row.old f + bit (not (has (take (suc f) self.old) code)) }
+        ensures settled { self.new ≡ take 64 (restacked (R.order ranking.now []) code self.old) }
+    {
+        if self.is_top(code) {
+            return;
+        }
+        self.charge(code, row);
+        self.settle(ranking, code);
     }
 }
 

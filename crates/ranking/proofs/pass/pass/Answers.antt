@@ -42,8 +42,8 @@ loop-t-preserved g c =
     let i = c.loop-t.t in
     let x = get_or s i 0 in
     let st = c.loop-t.stack in
-    let st' = c.settle.new.self in
-    let after = c.settle.ensures in
+    let st' = c.refer.new.self in
+    let after = c.refer.ensures.settled in
     let inv = c.loop-t.invariant in
     let h = c.loop-t-test.true in
     let small : i < 65535 = omega (arith, c.codes-codes.ensures.few) in
@@ -55,9 +55,9 @@ loop-t-preserved g c =
       c.type_inv.row,
       subst (λ (zs : List ℕ). once zs ≡ true) (sym after) (once_take 64 (restacked (r' []) x st) (once_restacked (r' []) x st inv.1)),
       subst (λ (zs : List ℕ). coded zs ≡ true) (sym after) (coded_take 64 (restacked (r' []) x st) (coded_restacked (r' []) x st (omega (arith, c.type_inv.codes i)) inv.2)),
-      λ f l. omega (arith, c.charge.ensures f l, at_most (not (has (take (suc f) st) x)), inv.3 f l),
-      λ f l. subst (λ (k : ℕ). Tracked r₀ r' nothing s st' k (get_or c.charge.new.row f 0) f) (sym (add-one i))
-          (tracked_more r₀ r r' nothing s st st' i (get_or c.loop-t.row f 0) (get_or c.charge.new.row f 0) f orders inv.1 inv.2 h small moves (c.charge.ensures f l) after l (inv.4 f l)),
+      λ f l. omega (arith, c.refer.ensures.charged f l, at_most (not (has (take (suc f) st) x)), inv.3 f l),
+      λ f l. subst (λ (k : ℕ). Tracked r₀ r' nothing s st' k (get_or c.refer.new.row f 0) f) (sym (add-one i))
+          (tracked_more r₀ r r' nothing s st st' i (get_or c.loop-t.row f 0) (get_or c.refer.new.row f 0) f orders inv.1 inv.2 h small moves (c.refer.ensures.charged f l) after l (inv.4 f l)),
       subst (λ (k : ℕ). told_all r' (tellings k (drop k s)) ≡ told_all r₀ (tellings 0 s)) (sym (add-one i)) (sym (told_more r r' s i h small moves) ∙ inv.5),
     )
 
