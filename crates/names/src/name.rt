@@ -162,6 +162,11 @@ impl Name for TaskPage {
 
     ghost back = { Prim.search rules };
 
+    // The tasks first: where they differ, no page has to be looked at.
+    fn same(&self, other: &TaskPage) -> bool {
+        self.task % TASKS == other.task % TASKS && self.page % PAGES == other.page % PAGES
+    }
+
     fn to_bits(&self) -> u16 {
         (self.task % TASKS) as u16 * PAGES + self.page % PAGES
     }
