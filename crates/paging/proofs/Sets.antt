@@ -54,6 +54,21 @@ size_out z M l h =
     each c (inl e) = rw (← e, eq-eqb z z refl, h)
     each c (inr ne) = rw (ne_eqb z c ne) (grind (arith, nat_tests))
 
+-- putting a page in that is there changes nothing
+pub with_same : (x : ℕ) (M : Pages) → M x ≡ true → with_page x M ≡ M
+with_same x M h = fun_ext (λ c. each c (cases_eq x c))
+  where
+    each : (c : ℕ) → (x ≡ c) ⊎ (x ≡ c → ⊥) → (eqb x c || M c) ≡ M c
+    each c (inl e) = rw (← e, h) (grind (arith, nat_tests))
+    each c (inr ne) = rw (ne_eqb x c ne)
+
+pub without_same : (z : ℕ) (M : Pages) → M z ≡ false → without z M ≡ M
+without_same z M h = fun_ext (λ c. each c (cases_eq z c))
+  where
+    each : (c : ℕ) → (z ≡ c) ⊎ (z ≡ c → ⊥) → (not (eqb z c) && M c) ≡ M c
+    each c (inl e) = rw (← e, h) (grind (arith, nat_tests))
+    each c (inr ne) = rw (ne_eqb z c ne)
+
 pub size_with : (x : ℕ) (M : Pages) → size (with_page x M) ≤ size M + 1
 size_with x M =
     omega (
