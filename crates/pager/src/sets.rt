@@ -9,5 +9,6 @@ use paging::set::PageSet;
 pub fn lacks(one: &PageSet, other: &PageSet, code: u8) -> bool
     ensures { result ≡ less (pages one.now) (pages other.now) code }
 {
+    // Both are asked, by `&`: a loop over all codes then has no branch for each.
     one.contains(code) & !other.contains(code)
 }

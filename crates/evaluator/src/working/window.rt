@@ -57,7 +57,7 @@ impl<'s> Window<'s> {
 }
 
 /// Moves the set of a window on by the reference t, whose place is in the table already.
-// Apart from `slide`: the set is lent once, and then fits the window again.
+// A function of its own: where `slide` lends its set, the window's ghost fields have to hold again after the call.
 fn slide_set(set: &mut PageSet, places: &[u16; 256], codes: &[u8], t: usize, width: usize)
     requires within { t < length codes.now }
     requires few { length codes.now ≤ 4096 }

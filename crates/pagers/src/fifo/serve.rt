@@ -58,7 +58,7 @@ impl FifoPager {
 }
 
 /// The frame after the one at the hand; after the last comes the first.
-// A comparison: a division at each pull took as long as the rest of it.
+// A comparison and no remainder, since a division is slow.
 fn onward(hand: u32, room: u32) -> u32
     requires { hand < room }
     ensures { result ≡ (if nat_eq (hand + 1) room then 0 else hand + 1) }

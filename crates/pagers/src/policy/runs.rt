@@ -10,7 +10,7 @@ use pager::plans::{plan, word_count};
 use pager::runs::run;
 use paging::string::References;
 
-// The policy is asked for once and not at each place, and its pager is served where nothing else refers to it.
+// By value: each pager is then a local of its own here, and which policy it is of is asked once and not at each place.
 impl PolicyPager {
     /// Serves the string place by place, each with the row from that place to the end. Returns the fault instants and the
     /// pulls that the policy's pager makes.
