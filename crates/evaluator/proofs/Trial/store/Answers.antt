@@ -1,4 +1,4 @@
-use Rattle.std.proofs.Common.{◌≡◌, ℕ, List, length, ap, ◌∙◌, arith, length-take}
+use Rattle.std.proofs.Common.{◌≡◌, ℕ, List, length, ap, ◌∙◌, arith, rules, length-take}
 use Rattle.names.specs.Lists.{in_list, listed}
 use Rattle.recording.specs.Writing.{encoded, named_by, recording, written}
 use Rattle.evaluator.specs.Strings.{string}
@@ -14,10 +14,9 @@ returns g c =
     let ns = listed bits c.args.list.now.memory.now c.args.list.now.count in
     let s = string c.args.self.now in
     let old = c.args.out.now in
-    let value = c.references.ensures in
-    let answer : c.encode.result ≡ encoded width ns s (length old) = c.encode.ensures.answer ∙ ap (λ (cs : List ℕ). encoded width ns cs (length old)) value in
+    let answer : c.encode.result ≡ encoded width ns s (length old) = c.encode.ensures.answer ∙ ap (λ (cs : List ℕ). encoded width ns cs (length old)) (search rules) in
     let bytes : c.encode.new.out ≡ written c.encode.result (recording kind width (named_by ns s)) old =
-    c.encode.ensures.out ∙ ap (λ (cs : List ℕ). written c.encode.result (recording kind width (named_by ns cs)) old) value in
+    c.encode.ensures.out ∙ ap (λ (cs : List ℕ). written c.encode.result (recording kind width (named_by ns cs)) old) (search rules) in
     record {
       answer = answer;
       out = bytes;

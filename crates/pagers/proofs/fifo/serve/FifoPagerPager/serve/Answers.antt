@@ -1,5 +1,5 @@
 -- What FIFO does with a row. Assumes nothing.
-use Rattle.std.proofs.Common.{◌≡◌, ℕ, false, List, [], get_or, drop, sym, refl, ap, ◌∙◌, arith}
+use Rattle.std.proofs.Common.{◌≡◌, ℕ, false, List, [], ◌∷◌, get_or, drop, sym, refl, ap, ◌∙◌, arith, rules}
 use Rattle.paging.specs.Pages.{has}
 use Rattle.paging.specs.Schedules.{pulled}
 use Rattle.paging.specs.Policies.{fifo_step, fifo}
@@ -32,7 +32,7 @@ returns c =
     let x = c.in-Some.field-0.now in
     let row = row_is c.args.row.now x (sym c.in-Some.ensures.value) in
     let out : has q x ≡ false = sym c.has.ensures ∙ c.if-has.false in
-    let e : p ≡ fifo_in f x q = c.pull.ensures.queue ∙ fifo_miss f x [] q out in
+    let e : p ≡ fifo_in f x q = c.pull.ensures.queue ∙ ap (λ (y : ℕ). fifo_step f (y ∷ []) q) (search rules) ∙ fifo_miss f x [] q out in
     record {
       moves = ap (λ (n : ℕ). fifo n p) c.pull.ensures.room ∙ stepped (fifo_step f) has p q _ _ row (e ∙ sym (fifo_miss f x (drop 1 c.args.row.now) q out));
       frames = c.pull.ensures.room;

@@ -1,5 +1,6 @@
 -- What a ranking's pager does with a row. Assumes nothing.
-use Rattle.std.proofs.Common.{◌≡◌, ℕ, ◌∷◌, sym, ap, ◌∙◌}
+use Rattle.std.proofs.Common.{◌≡◌, ℕ, ◌∷◌, sym, ap, ◌∙◌, arith}
+use Rattle.std.proofs.lemmas.Grind.{common_steps}
 use Rattle.paging.specs.Frames.{frames_of}
 use Rattle.paging.specs.Sets.{pages}
 use Rattle.paging.specs.Models.{stepping}
@@ -20,8 +21,8 @@ returns g c =
     let f = frames_of s.held.frames in
     let same = ap frames_of c.admit.ensures.frames in
     let e : p ≡ own_step f (c.in-Some.field-0-0.now ∷ c.in-Some.rest.now) q =
-    own_moved (g.R.Ranking.order s.ranking) (g.R.Ranking.order c.tell.new.self) s.serves c.later-self.result c.next_place.result f c.in-Some.field-0-0.now c.in-Some.rest.now
-    (pages s.held.set) (pages c.admit.new.held.set) c.later-self.ensures c.next_place.ensures c.tell.ensures c.admit.ensures.set in
+    own_moved (g.R.Ranking.order s.ranking) (g.R.Ranking.order c.tell.new.self) s.serves c.later-self.result _ f c.in-Some.field-0-0.now c.in-Some.rest.now
+    (pages s.held.set) (pages c.admit.new.held.set) c.later-self.ensures (grind (arith, common_steps, c.next_place.ensures)) c.tell.ensures c.admit.ensures.set in
     record {
       moves = ap (λ (n : ℕ). stepping (own_step n) own_held p) same ∙ stepped (own_step f) own_held p q _ _ c.in-Some.ensures.cases.0 e;
       frames = same;
