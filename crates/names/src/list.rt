@@ -45,7 +45,8 @@ impl<'m, N: Name + Copy> NameList<'m, N> {
     pub fn names(&self) -> &[N]
         ensures { result.now ≡ in_list self.now.memory.now self.now.count }
     {
-        &self.memory[..self.count]
+        // There are never more than 256. Where the compiler is told so and sees the memory, it compares several bare pages at once.
+        &self.memory[..self.count.min(256)]
     }
 
     /// The name that has a code, if there is one.
